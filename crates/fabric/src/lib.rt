@@ -1,0 +1,1 @@
+pub type Word = u32;

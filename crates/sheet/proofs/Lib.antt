@@ -1,0 +1,4 @@
+pub mod Boards
+pub mod Calls
+pub mod Ends
+pub mod Firsts

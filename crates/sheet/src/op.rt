@@ -1,0 +1,10 @@
+// The calls by name alone.
+#[derive(Clone, Copy)]
+pub enum Op {
+    Load,
+    Store,
+    Fence,
+    Evict,
+    Up,
+    Down,
+}

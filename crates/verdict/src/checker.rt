@@ -1,0 +1,72 @@
+ghost use mathlib.Core.Path.{_≡_};
+ghost use Prim.Native.Nat.{_≤_};
+ghost use lib.ListN.{length};
+ghost use Rattle.std.specs.declared.result.Result.the-variants.{Ok};
+ghost use Rattle.sheet.specs.Reading.{then, entries-from, reading};
+ghost use Rattle.verdict.specs.Verdicts.{calls-in, counted, feeds, line-number-at, verdict-of};
+use crate::verdict::Verdict;
+use sheet::Fault;
+use sheet::Line;
+use sheet::Reader;
+
+// How many line feeds a text has.
+fn count_feeds(text: &[u8]) -> usize
+    ensures value { λ r. ⌜ r ≡ feeds (now (text .entry)) ⌝ }
+    ensures bound { λ r. ⌜ r ≤ length (now (text .entry)) ⌝ }
+{
+    let mut count = 0;
+    for b in text {
+        if *b == b'\n' {
+            count += 1;
+        }
+    }
+    count
+}
+
+// The line that a place is on: 1 plus the line feeds before it.
+pub fn line_number(sheet: &[u8], place: usize) -> usize
+    ensures { λ r. ⌜ r ≡ line-number-at (now (sheet .entry)) place ⌝ }
+{
+    let end = place.min(sheet.len());
+    1 + count_feeds(&sheet[0..end])
+}
+
+// How many calls are left to read.
+fn count_calls(mut reader: Reader) -> Result<usize, Fault>
+    ensures { λ r. ⌜ r ≡ then (entries-from (length (now (reader .entry .sheet))) (now (reader .entry .sheet)) (reader .entry .at)) (λ es. Ok (calls-in es)) ⌝ }
+{
+    let mut calls = 0;
+    while let Some(line) = reader.next_line()? {
+        if let Line::Call(_) = line {
+            calls += 1;
+        }
+    }
+    Ok(calls)
+}
+
+// How many calls a sheet has, or none where there is no board of the size that it asks for.
+fn count(sheet: &[u8]) -> Result<Option<usize>, Fault>
+    ensures { λ r. ⌜ r ≡ counted (reading (now (sheet .entry))) ⌝ }
+{
+    let mut reader = Reader::new(sheet);
+    let board = reader.board()?;
+    if !board.has_right_size() {
+        return Ok(None);
+    }
+    let calls = count_calls(reader)?;
+    Ok(Some(calls))
+}
+
+// Checks a sheet.
+pub fn check(sheet: &[u8]) -> Verdict
+    ensures { λ r. ⌜ r ≡ verdict-of (now (sheet .entry)) ⌝ }
+{
+    match count(sheet) {
+        Ok(Some(calls)) => Verdict::Good { calls },
+        Ok(None) => Verdict::WrongBoard,
+        Err(fault) => Verdict::Faulty {
+            fault,
+            line: line_number(sheet, fault.place),
+        },
+    }
+}

@@ -1,0 +1,21 @@
+use mathlib.Core.Path.{_≡_}
+use mathlib.Core.Bool.{true, false}
+use native.Mathlib.Omega.{arith}
+use borrow.Author.Needs.{needs}
+use lib.ListN.{getD}
+use Rattle.words.specs.Lengths.{ends-line}
+use Rattle.words.proofs.Scan.{at-stop, at-end, goes-on}
+use Rattle.words.proofs.line_length.Needs as need
+
+pub returns-then-b-eq10 : need.returns-then-b-eq10
+returns-then-b-eq10 c =
+    let stops : ends-line (getD (c .args .text .now) (c .loop-i .i) 0) ≡ true = search needs in
+    record { value = omega (arith, at-stop ends-line (c .args .text .now) (c .loop-i .i) (c .loop-i-test .taken) stops); bound = omega arith }
+
+pub loop-i-again : need.loop-i-again
+loop-i-again c =
+    let goes : ends-line (getD (c .args .text .now) (c .loop-i .i) 0) ≡ false = search needs in
+    omega (arith, goes-on ends-line (c .args .text .now) (c .loop-i .i) (c .loop-i-test .taken) goes)
+
+pub returns : need.returns
+returns c = record { value = omega (arith, at-end ends-line (c .args .text .now) (c .loop-i .i) (omega arith)); bound = omega arith }
