@@ -198,11 +198,11 @@ pub data Reading : Type 0 where
   wrong-board : Reading
   holds : Board → List Entry → Reading
 
-abbrev entries-of : Board → Result (List Entry) Fault → Reading
+abbrev pub entries-of : Board → Result (List Entry) Fault → Reading
 entries-of b (Ok es) = holds b es
 entries-of b (Err f) = faulty f
 
-abbrev with-board : List ℕ → Result Board Fault → Reading
+abbrev pub with-board : List ℕ → Result Board Fault → Reading
 with-board s (Err f) = faulty f
 with-board s (Ok b) = cond (right-size (b .shims) (b .lines)) (entries-of b (entries-from (length s) s (board-end s))) wrong-board
 

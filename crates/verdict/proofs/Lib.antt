@@ -1,2 +1,5 @@
 pub mod Counts
 pub mod Feeds
+pub mod Places
+pub mod ReadsBack
+pub mod Spelling
