@@ -1,7 +1,7 @@
 use fabric::Word;
 
 // A call on a board. Numbers stand here at full width: which of them it takes is for the board to say.
-#[derive(Clone, Copy, PartialEq, Eq, Debug)]
+#[derive(Clone, Copy)]
 pub enum Call {
     Load {
         shim: u32,

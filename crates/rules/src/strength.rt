@@ -2,7 +2,7 @@ ghost use mathlib.Core.Path.{_≡_};
 ghost use Rattle.rules.specs.Strengths.{strength-number, mark-of};
 
 // How strictly a call is ordered with the calls around it, by the names of C11.
-#[derive(Clone, Copy, PartialEq, Eq, Debug)]
+#[derive(Clone, Copy)]
 pub enum Strength {
     Relaxed,
     Acquire,

@@ -2,7 +2,7 @@ ghost use mathlib.Core.Path.{_≡_};
 ghost use Rattle.sheet.specs.Faults.{fault-number};
 
 // What is wrong with a sheet.
-#[derive(Clone, Copy, PartialEq, Eq, Debug)]
+#[derive(Clone, Copy)]
 pub enum FaultKind {
     // it does not begin with the header
     Header,
@@ -32,7 +32,7 @@ impl FaultKind {
 }
 
 // What is wrong, and at which byte of the sheet, counted from 0.
-#[derive(Clone, Copy, PartialEq, Eq, Debug)]
+#[derive(Clone, Copy)]
 pub struct Fault {
     pub kind: FaultKind,
     pub place: usize,

@@ -89,12 +89,13 @@ module _ (o : Operand) (w : List ℕ) (v : ℕ) (reads : operand-of o w ≡ Some
     free′ = subst (Free ends-word) is free
 
     by-byte : (operand-at o s a ≡ Ok v) × (drop (operand-end s a) s ≡ after-word ws ++ t)
-    by-byte =
-        ( ap (λ (r : Result Unit Fault). then r (λ _. then (wanted s (a + 1)) (λ _. known (not-an o) (a + 1) (operand-of o (word-at s (a + 1)))))) (places.is-wanted s a space ((w ++ after-word ws) ++ t) e refl)
+    by-byte = (
+      ap (λ (r : Result Unit Fault). then r (λ _. then (wanted s (a + 1)) (λ _. known (not-an o) (a + 1) (operand-of o (word-at s (a + 1)))))) (places.is-wanted s a space ((w ++ after-word ws) ++ t) e refl)
           ∙ ap (λ (r : Result Unit Fault). then r (λ _. known (not-an o) (a + 1) (operand-of o (word-at s (a + 1))))) (word-wanted s (a + 1) x xs ws t next free′)
           ∙ ap (λ u. known (not-an o) (a + 1) (operand-of o u)) (word-read s (a + 1) x xs ws t next free′ ∙ sym is)
-          ∙ ap (known (not-an o) (a + 1)) reads
-        , word-after s (a + 1) x xs ws t next free′)
+          ∙ ap (known (not-an o) (a + 1)) reads,
+      word-after s (a + 1) x xs ws t next free′,
+    )
 
   operand-read : (operand-at o s a ≡ Ok v) × (drop (operand-end s a) s ≡ after-word ws ++ t)
   operand-read = let b = some-byte o w v reads in by-byte (b .0) (b .1 .0) (b .1 .1)
@@ -158,12 +159,13 @@ module _ (op : Op) (vs s : List ℕ) (a : ℕ) (t : List ℕ) (fits : Fits (op-o
   ws = spelled-all (op-operands op) vs
 
   call-by-name : Name op → drop a s ≡ words-line ((initial op ∷ others op) ∷ ws) ++ t → EntryAt s a (a-call (call-of op vs)) (words-line ((initial op ∷ others op) ∷ ws))
-  call-by-name n e =
-      ( ap (λ (r : Result Unit Fault). then r (λ _. cond (eqb (getD s a 0) hash) (note-at s a) (call-at s a (op-of (word-at s a))))) (word-wanted s a (initial op) (others op) ws t e (n .free))
+  call-by-name n e = (
+    ap (λ (r : Result Unit Fault). then r (λ _. cond (eqb (getD s a 0) hash) (note-at s a) (call-at s a (op-of (word-at s a))))) (word-wanted s a (initial op) (others op) ws t e (n .free))
         ∙ ap (λ (b : Bool). cond b (note-at s a) (call-at s a (op-of (word-at s a)))) (ap (λ b. eqb b hash) (word-first s a (initial op) (others op) ws t e (n .free)) ∙ n .no-note)
         ∙ ap (call-at s a) (ap op-of (word-read s a (initial op) (others op) ws t e (n .free)) ∙ n .named)
-        ∙ ap (λ (r : Result (List ℕ) Fault). then r (λ us. Ok (a-call (call-of op us)))) (operands-read (op-operands op) vs s (word-end s a) t fits (word-after s a (initial op) (others op) ws t e (n .free)))
-      , omega (arith, ap line-length e, words-length (initial op ∷ others op) ws t (n .free) (all-free (op-operands op) vs fits)))
+        ∙ ap (λ (r : Result (List ℕ) Fault). then r (λ us. Ok (a-call (call-of op us)))) (operands-read (op-operands op) vs s (word-end s a) t fits (word-after s a (initial op) (others op) ws t e (n .free))),
+    omega (arith, ap line-length e, words-length (initial op ∷ others op) ws t (n .free) (all-free (op-operands op) vs fits)),
+  )
 
   call-read : drop a s ≡ words-line (op-word op ∷ ws) ++ t → EntryAt s a (a-call (call-of op vs)) (words-line (op-word op ∷ ws))
   call-read e =
@@ -273,10 +275,10 @@ reads-back s b es w small =
     let rest : List ℕ = joined entry-line es in
     let line : drop (length header) s ≡ words-line (board-words b) ++ joined entry-line es = ap (drop (length header)) (w .bytes) in
     let board : opened s ≡ Ok b =
-        ap (λ (u : Bool). cond u (Err (fault TooLong size-limit)) (cond (sameBytes (take (length header) s) header) (board-at s (length header)) (Err (fault Header 0)))) (le-ltb size-limit (length s) small)
-        ∙ ap (λ u. cond (sameBytes (take (length header) u) header) (board-at s (length header)) (Err (fault Header 0))) (w .bytes)
-        ∙ board-read s (length header) b (joined entry-line es) (w .board) line in
+    ap (λ (u : Bool). cond u (Err (fault TooLong size-limit)) (cond (sameBytes (take (length header) s) header) (board-at s (length header)) (Err (fault Header 0)))) (le-ltb size-limit (length s) small)
+    ∙ ap (λ u. cond (sameBytes (take (length header) u) header) (board-at s (length header)) (Err (fault Header 0))) (w .bytes)
+    ∙ board-read s (length header) b (joined entry-line es) (w .board) line in
     let entries : entries-from (length s) s (board-end s) ≡ Ok es =
-        entries-read es (length s) s (board-end s) (w .entries) (omega arith)
-        (ap (λ n. drop n s) (board-ends s (length header) b (joined entry-line es) (w .board) line) ∙ places.drop-more s (words-line (board-words b)) (joined entry-line es) (length header) line) in
+    entries-read es (length s) s (board-end s) (w .entries) (omega arith)
+    (ap (λ n. drop n s) (board-ends s (length header) b (joined entry-line es) (w .board) line) ∙ places.drop-more s (words-line (board-words b)) (joined entry-line es) (length header) line) in
     ap (with-board s) board ∙ ap (λ (r : Result (List Entry) Fault). cond (right-size (b .shims) (b .lines)) (entries-of b r) wrong-board) entries

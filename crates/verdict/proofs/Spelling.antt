@@ -45,16 +45,16 @@ Fits [] (v ∷ vs) = ⊥
 Fits (o ∷ os) [] = ⊥
 Fits (o ∷ os) (v ∷ vs) = Fit o v × Fits os vs
 
--- numbers are written in digits, which end no word
-own : Numerals (λ ds. allDigits ds ≡ true) (value-after 0)
+-- numbers are read digit by digit
+pub own : Numerals (λ ds. allDigits ds ≡ true) (value-after 0)
 own = numerals-by-fold (λ ds. allDigits ds ≡ true) tells-allDigits value-after (search needs)
 
 digits-free : (w : List ℕ) → allDigits w ≡ true → Free ends-word w
 digits-free [] e = tt
 digits-free (c ∷ cs) e = let p = and-parts (asciiDigit c) (allDigits cs) e in (digit-ends-nothing c (p .0), digits-free cs (p .1))
   where
-  digit-ends-nothing : (c : ℕ) → asciiDigit c ≡ true → ends-word c ≡ false
-  digit-ends-nothing c h = search needs
+    digit-ends-nothing : (c : ℕ) → asciiDigit c ≡ true → ends-word c ≡ false
+    digit-ends-nothing c h = search needs
 
 plain-from : (w : List ℕ) → allDigits w ≡ true → 0 < length w → (1 < length w → 48 < getD w 0 0) → plain w ≡ true
 plain-from [] d l z = absurd (omega arith)
@@ -67,7 +67,7 @@ number-back v h =
     let digits : allDigits (decimal v) ≡ true = digits-decimal own v small in
     let value : value-after 0 (decimal v) ≡ v = value-decimal own v small in
     let first : 1 < length (decimal v) → 48 < getD (decimal v) 0 0 =
-        λ l. ⊎-elim (λ z. absurd (omega (arith, ap (λ n. length (decimal n)) z, ap length (decimal-digit 0 (omega arith))))) (λ p. first-decimal v (omega arith) small) (cases-eq v 0) in
+    λ l. ⊎-elim (λ z. absurd (omega (arith, ap (λ n. length (decimal n)) z, ap length (decimal-digit 0 (omega arith))))) (λ p. first-decimal v (omega arith) small) (cases-eq v 0) in
     let right : plain (decimal v) ≡ true = plain-from (decimal v) digits (decimal-some v small) first in
     ap (λ t. cond (t && leb (value-after 0 (decimal v)) largest) (Some (value-after 0 (decimal v))) None) right
     ∙ ap (λ n. cond (leb n largest) (Some n) None) value

@@ -3,7 +3,7 @@ ghost use Prim.Native.Nat.{_≤_};
 ghost use lib.ListN.{length};
 ghost use Rattle.std.specs.declared.result.Result.the-variants.{Ok};
 ghost use Rattle.sheet.specs.Reading.{then, entries-from, reading};
-ghost use Rattle.verdict.specs.Laws.{ReadsBack};
+ghost use Rattle.verdict.specs.Laws.{OnlyWritten, ReadsBack};
 ghost use Rattle.verdict.specs.Verdicts.{calls-in, counted, feeds, line-number-at, verdict-of};
 use crate::verdict::Verdict;
 use sheet::Fault;
@@ -65,14 +65,18 @@ fn judged(sheet: &[u8]) -> Verdict
     match count(sheet) {
         Ok(Some(calls)) => Verdict::Good { calls },
         Ok(None) => Verdict::WrongBoard,
-        Err(fault) => Verdict::Faulty { fault, line: line_number(sheet, fault.place) },
+        Err(fault) => Verdict::Faulty {
+            fault,
+            line: line_number(sheet, fault.place),
+        },
     }
 }
 
 // Checks a sheet. The verdict rests on a reading that is the inverse of writing.
 pub fn check(sheet: &[u8]) -> Verdict
     ensures verdict { λ r. ⌜ r ≡ verdict-of (now (sheet .entry)) ⌝ }
-    ensures inverse { λ _. ⌜ ReadsBack (now (sheet .entry)) ⌝ }
+    ensures reads_back { λ _. ⌜ ReadsBack (now (sheet .entry)) ⌝ }
+    ensures only_written { λ _. ⌜ OnlyWritten (now (sheet .entry)) ⌝ }
 {
     judged(sheet)
 }

@@ -1,5 +1,8 @@
+use Rattle.verdict.proofs.OnlyWritten.{only-written}
 use Rattle.verdict.proofs.ReadsBack.{reads-back}
 use Rattle.verdict.proofs.checker.check.Needs as need
 
 pub returns : need.returns
-returns c = record { verdict = c .judged .ensures; inverse = reads-back (c .args .sheet .now) }
+returns c =
+    let s = c .args .sheet .now in
+    record { verdict = c .judged .ensures; reads-back = reads-back s; only-written = only-written s }
