@@ -1,6 +1,6 @@
 ghost use mathlib.Core.Path.{_≡_};
 ghost use Prim.Native.Nat.{_≤_};
-ghost use lib.ListN.{length};
+ghost use lib.ListN.{length, take};
 ghost use Rattle.std.specs.declared.result.Result.the-variants.{Ok};
 ghost use Rattle.sheet.specs.Reading.{then, entries-from, reading};
 ghost use Rattle.verdict.specs.Laws.{OnlyWritten, ReadsBack};
@@ -24,12 +24,18 @@ fn count_feeds(text: &[u8]) -> usize
     count
 }
 
+// The bytes before a place.
+fn up_to(sheet: &[u8], place: usize) -> &[u8]
+    ensures { λ r. ⌜ now r ≡ take place (now (sheet .entry)) ⌝ }
+{
+    &sheet[0..place.min(sheet.len())]
+}
+
 // The line that a place is on: 1 plus the line feeds before it.
 pub fn line_number(sheet: &[u8], place: usize) -> usize
     ensures { λ r. ⌜ r ≡ line-number-at (now (sheet .entry)) place ⌝ }
 {
-    let end = place.min(sheet.len());
-    1 + count_feeds(&sheet[0..end])
+    1 + count_feeds(up_to(sheet, place))
 }
 
 // How many calls are left to read.

@@ -2,8 +2,22 @@
 ghost use mathlib.Core.Path.{_≡_};
 ghost use Prim.Native.Nat.{_≤_};
 ghost use lib.ListN.{length};
-ghost use Rattle.words.specs.Lengths.{word-length, line-length};
+ghost use Rattle.words.specs.Lengths.{ends-line, ends-word, line-length, word-length};
 ghost use Rattle.words.specs.Numbers.{number-of};
+
+// Whether a word ends before this byte.
+fn ends_word(b: u8) -> bool
+    ensures { λ r. ⌜ r ≡ ends-word b ⌝ }
+{
+    b == b' ' || b == b'\n'
+}
+
+// Whether a line ends before this byte.
+fn ends_line(b: u8) -> bool
+    ensures { λ r. ⌜ r ≡ ends-line b ⌝ }
+{
+    b == b'\n'
+}
 
 // How many bytes a word has that begins where `text` does: those before a space, a line feed or the end.
 pub fn word_length(text: &[u8]) -> usize
@@ -11,7 +25,7 @@ pub fn word_length(text: &[u8]) -> usize
     ensures bound { λ r. ⌜ r ≤ length (now (text .entry)) ⌝ }
 {
     for (i, b) in text.iter().enumerate() {
-        if *b == b' ' || *b == b'\n' {
+        if ends_word(*b) {
             return i;
         }
     }
@@ -24,7 +38,7 @@ pub fn line_length(text: &[u8]) -> usize
     ensures bound { λ r. ⌜ r ≤ length (now (text .entry)) ⌝ }
 {
     for (i, b) in text.iter().enumerate() {
-        if *b == b'\n' {
+        if ends_line(*b) {
             return i;
         }
     }

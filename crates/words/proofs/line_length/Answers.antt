@@ -7,8 +7,8 @@ use Rattle.words.specs.Lengths.{ends-line}
 use Rattle.words.proofs.Scan.{at-stop, at-end, goes-on}
 use Rattle.words.proofs.line_length.Needs as need
 
-pub returns-then-b-eq10 : need.returns-then-b-eq10
-returns-then-b-eq10 c =
+pub returns-then-ends-line : need.returns-then-ends-line
+returns-then-ends-line c =
     let stops : ends-line (getD (c .args .text .now) (c .loop-i .i) 0) ≡ true = search needs in
     record { value = omega (arith, at-stop ends-line (c .args .text .now) (c .loop-i .i) (c .loop-i-test .taken) stops); bound = omega arith }
 

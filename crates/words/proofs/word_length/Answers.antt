@@ -7,8 +7,8 @@ use Rattle.words.specs.Lengths.{ends-word}
 use Rattle.words.proofs.Scan.{at-stop, at-end, goes-on}
 use Rattle.words.proofs.word_length.Needs as need
 
-pub returns-then-b-eq32 : need.returns-then-b-eq32
-returns-then-b-eq32 c =
+pub returns-then-ends-word : need.returns-then-ends-word
+returns-then-ends-word c =
     let stops : ends-word (getD (c .args .text .now) (c .loop-i .i) 0) ≡ true = search needs in
     record { value = omega (arith, at-stop ends-word (c .args .text .now) (c .loop-i .i) (c .loop-i-test .taken) stops); bound = omega arith }
 
