@@ -1,1 +1,21 @@
-pub type Word = u32;
+mod fabric;
+mod fault;
+mod frame;
+mod message;
+
+pub use fabric::Fabric;
+pub use fabric::MAX_CAPACITY;
+pub use fabric::MAX_LANES;
+pub use fabric::MAX_SHIMS;
+pub use fault::FabricFault;
+pub use fault::FabricFaultDebug;
+pub use fault::FabricFaultEq;
+pub use fault::FabricFaultPartialEq;
+pub use frame::FRAME_LEN;
+pub use frame::decode;
+pub use frame::encode;
+pub use message::Message;
+pub use message::MessageDebug;
+pub use message::MessageEq;
+pub use message::MessagePartialEq;
+pub use message::Word;

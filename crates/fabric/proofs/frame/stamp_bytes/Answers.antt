@@ -1,0 +1,8 @@
+use mathlib.Core.Path.{_∙_}
+use native.Mathlib.Omega.{arith}
+use Rattle.fabric.specs.Frame.{stamp-bytes}
+use Rattle.fabric.proofs.FrameBytes.{number-of-bytes, to-bytes-32}
+use Rattle.fabric.proofs.frame.stamp_bytes.Needs as need
+
+pub returns : need.returns
+returns c = record { bytes = c .to-be-bytes .ensures ∙ to-bytes-32 (c .args .stamp); back = number-of-bytes stamp-bytes (c .args .stamp) (omega arith) }

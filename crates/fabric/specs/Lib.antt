@@ -1,0 +1,5 @@
+pub mod Fault
+pub mod Frame
+pub mod Lanes
+pub mod Backing
+pub mod Queue

@@ -1,0 +1,5 @@
+mod ring;
+
+pub use ring::RING_CAPACITY;
+pub use ring::Ring;
+pub use ring::RingFabric;
