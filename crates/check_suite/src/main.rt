@@ -30,10 +30,24 @@ fn show(rt: &LibcRuntime, name: &str, text: &[u8]) -> io::Result<()> {
 fn main(rt: LibcRuntime) -> io::Result<()> {
     for name in env::args(&rt)?.skip(1) {
         let mut text = Vec::new(rt.alloc());
-        File::open(&rt, name.as_str())?.take(SIZE_LIMIT as u64 + 1).read_to_end(&mut text)?;
+        File::open(&rt, name.as_str())?
+            .take(SIZE_LIMIT as u64 + 1)
+            .read_to_end(&mut text)?;
         show(&rt, name.as_str(), &text)?;
     }
-    show(&rt, "65536 bytes", &long_sheet(rt.alloc(), SIZE_LIMIT, b'\n')?)?;
-    show(&rt, "65536 bytes without a last line feed", &long_sheet(rt.alloc(), SIZE_LIMIT, b'.')?)?;
-    show(&rt, "65537 bytes", &long_sheet(rt.alloc(), SIZE_LIMIT + 1, b'\n')?)
+    show(
+        &rt,
+        "65536 bytes",
+        &long_sheet(rt.alloc(), SIZE_LIMIT, b'\n')?,
+    )?;
+    show(
+        &rt,
+        "65536 bytes without a last line feed",
+        &long_sheet(rt.alloc(), SIZE_LIMIT, b'.')?,
+    )?;
+    show(
+        &rt,
+        "65537 bytes",
+        &long_sheet(rt.alloc(), SIZE_LIMIT + 1, b'\n')?,
+    )
 }

@@ -8,11 +8,11 @@ use lib.Dec.{leb}
 use lib.ListN.{length}
 use Rattle.std.specs.declared.result.Result.{Result}
 use Rattle.std.specs.declared.result.Result.the-variants.{Ok, Err}
-use Rattle.sheet.specs.declared.fault.Fault.{Fault}
-use Rattle.sheet.specs.declared.fault.FaultKind.the-variants.{WordCount}
+use Rattle.words.specs.declared.fault.Fault.{Fault}
+use Rattle.words.specs.declared.fault.FaultKind.the-variants.{WordCount}
 use Rattle.sheet.specs.declared.line.Board.{Board}
 use Rattle.sheet.specs.declared.line.FabricName.{FabricName}
-use Rattle.sheet.specs.Faults.{fault}
+use Rattle.words.specs.Faults.{fault}
 use Rattle.sheet.specs.Format.{board-word}
 use Rattle.sheet.specs.Reading.{then, keyword-at, line-ends, line-end, word-end, a-number, a-fabric, operand-at, operand-end, operands-at, operands-end, board-operands, board-of, board-line-at, board-at, fabric-named}
 use Rattle.sheet.proofs.Ends.{then-ok, operands-line, line-end-of-word}

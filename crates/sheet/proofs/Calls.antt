@@ -15,13 +15,13 @@ use Rattle.std.specs.declared.option.Option.{Option}
 use Rattle.std.specs.declared.option.Option.the-variants.{Some, None}
 use Rattle.std.specs.declared.result.Result.{Result}
 use Rattle.std.specs.declared.result.Result.the-variants.{Ok, Err}
-use Rattle.sheet.specs.declared.fault.Fault.{Fault}
-use Rattle.sheet.specs.declared.fault.FaultKind.the-variants.{UnknownWord}
+use Rattle.words.specs.declared.fault.Fault.{Fault}
+use Rattle.words.specs.declared.fault.FaultKind.the-variants.{UnknownWord}
 use Rattle.sheet.specs.declared.line.Line.{Line}
 use Rattle.sheet.specs.declared.line.Line.the-variants as line
 use Rattle.sheet.specs.declared.op.Op.{Op}
 use Rattle.sheet.specs.declared.op.Op.the-variants.{Load, Store, Fence, Evict, Up, Down}
-use Rattle.sheet.specs.Faults.{fault}
+use Rattle.words.specs.Faults.{fault}
 use Rattle.sheet.specs.Format.{hash, a-call}
 use Rattle.sheet.specs.Lines.{told, InPlace, LineAt, call-line-at}
 use Rattle.sheet.specs.Reading.{then, unless, wanted, keyword-at, word-at, word-end, line-end, operands-at, operands-end, op-word, op-operands, op-of, call-of, call-at, note-at, entry-at}

@@ -13,7 +13,7 @@ use Rattle.std.proofs.shelf.Lists.{drop-drop}
 use Rattle.std.proofs.shelf.Tests.{cases-bool, or-parts, leb-false}
 use Rattle.std.specs.declared.result.Result.{Result}
 use Rattle.std.specs.declared.result.Result.the-variants.{Ok, Err}
-use Rattle.sheet.specs.declared.fault.Fault.{Fault}
+use Rattle.words.specs.declared.fault.Fault.{Fault}
 use Rattle.sheet.specs.Reading.{then, wanted, line-ends, word-end, line-end, Operand, operand-at, operand-end, operands-at, operands-end}
 use Rattle.words.specs.Lengths.{line-feed, space, ends-word, ends-line, word-length, line-length}
 use Rattle.words.proofs.Scan.{at-stop, goes-on}

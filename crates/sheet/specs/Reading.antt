@@ -14,17 +14,17 @@ use Rattle.std.specs.declared.result.Result.{Result}
 use Rattle.std.specs.declared.result.Result.the-variants.{Ok, Err}
 use Rattle.rules.specs.declared.call.Call.{Call}
 use Rattle.rules.specs.declared.call.Call.the-variants as call
-use Rattle.sheet.specs.declared.fault.FaultKind.{FaultKind}
-use Rattle.sheet.specs.declared.fault.FaultKind.the-variants.{Header, UnknownWord, NotANumber, WordCount, NoLineFeed, TooLong}
-use Rattle.sheet.specs.declared.fault.Fault.{Fault}
+use Rattle.words.specs.declared.fault.FaultKind.{FaultKind}
+use Rattle.words.specs.declared.fault.FaultKind.the-variants.{Header, UnknownWord, NotANumber, WordCount, NoLineFeed, TooLong}
+use Rattle.words.specs.declared.fault.Fault.{Fault}
 use Rattle.sheet.specs.declared.line.Board.{Board}
 use Rattle.sheet.specs.declared.line.FabricName.{FabricName}
 use Rattle.sheet.specs.declared.line.FabricName.the-variants.{Ring, Frames, Staged}
 use Rattle.sheet.specs.declared.op.Op.{Op}
 use Rattle.sheet.specs.declared.op.Op.the-variants.{Load, Store, Fence, Evict, Up, Down}
-use Rattle.sheet.specs.Faults.{fault}
+use Rattle.words.specs.Faults.{fault}
 use Rattle.sheet.specs.Format.{header, size-limit, hash, board-word, strength-words, fabric-words, Entry, a-call, a-note}
-use Rattle.sheet.specs.Sizes.{right-size}
+use Rattle.rules.specs.Sizes.{is-size}
 use Rattle.words.specs.Lengths.{line-feed, word-length, line-length}
 use Rattle.words.specs.Numbers.{number-of}
 
@@ -204,7 +204,7 @@ entries-of b (Err f) = faulty f
 
 abbrev pub with-board : List ℕ → Result Board Fault → Reading
 with-board s (Err f) = faulty f
-with-board s (Ok b) = cond (right-size (b .shims) (b .lines)) (entries-of b (entries-from (length s) s (board-end s))) wrong-board
+with-board s (Ok b) = cond (is-size (b .shims) (b .lines)) (entries-of b (entries-from (length s) s (board-end s))) wrong-board
 
 -- a line has one byte at least, so that a sheet has no more lines than bytes
 abbrev pub reading : List ℕ → Reading

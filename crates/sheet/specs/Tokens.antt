@@ -9,7 +9,7 @@ use denote.Ref.{RefT}
 use Rattle.std.specs.declared.option.Option.the-variants.{Some, None}
 use Rattle.std.specs.declared.result.Result.{Result}
 use Rattle.std.specs.declared.result.Result.the-variants.{Ok, Err}
-use Rattle.sheet.specs.declared.fault.Fault.{Fault}
+use Rattle.words.specs.declared.fault.Fault.{Fault}
 use Rattle.sheet.specs.declared.token.Token.{Token}
 use Rattle.sheet.specs.declared.token.Token.the-variants.{Keyword, Number, Note}
 use Rattle.sheet.specs.Format.{hash}

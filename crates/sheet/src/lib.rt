@@ -1,13 +1,10 @@
 // Run sheets: what a sheet holds, and which byte is wrong where it is not well formed.
-mod fault;
 mod line;
 mod names;
 mod op;
 mod reader;
 mod token;
 
-pub use fault::Fault;
-pub use fault::FaultKind;
 pub use line::Board;
 pub use line::FabricName;
 pub use line::Line;

@@ -1,5 +1,3 @@
-ghost use mathlib.Core.Path.{_≡_};
-ghost use Rattle.sheet.specs.Sizes.{right-size};
 use rules::Call;
 
 // The fabrics that a sheet can ask for.
@@ -16,15 +14,6 @@ pub struct Board {
     pub shims: u32,
     pub lines: u32,
     pub fabric: FabricName,
-}
-
-impl Board {
-    // Whether there is a board of this size.
-    pub fn has_right_size(self) -> bool
-        ensures { λ r. ⌜ r ≡ right-size (self .shims) (self .lines) ⌝ }
-    {
-        1 <= self.shims && self.shims <= 8 && 1 <= self.lines && self.lines <= 64
-    }
 }
 
 // A line after the board line.

@@ -10,11 +10,11 @@ use Rattle.std.proofs.shelf.Equals.{sameBytes-decides}
 use Rattle.std.specs.shelf.Text.{sameBytes}
 use Rattle.std.specs.declared.result.Result.{Result}
 use Rattle.std.specs.declared.result.Result.the-variants.{Ok, Err}
-use Rattle.sheet.specs.declared.fault.Fault.{Fault}
+use Rattle.words.specs.declared.fault.Fault.{Fault}
 use Rattle.sheet.specs.declared.line.Board.{Board}
 use Rattle.sheet.specs.Format.{Entry, header, size-limit, board-word, board-words, words-line, fabric-words, fabric-number, BoardFits}
 use Rattle.sheet.specs.Reading.{wanted, keyword-at, word-at, fabric-named, board-operands, board-of, board-line-at, opened, board-end, entries-from, reading, holds}
-use Rattle.sheet.specs.Sizes.{right-size}
+use Rattle.rules.specs.Sizes.{is-size}
 use Rattle.sheet.proofs.Ends.{then-ok}
 use Rattle.verdict.specs.Laws.{OnlyWritten}
 use Rattle.verdict.proofs.ReadLines.{Throughout, LineRead, Makes, line-read, entries-read}
@@ -62,16 +62,16 @@ module _ (s : List ℕ) (b : Board) (es : List Entry) (read : reading s ≡ hold
   abbrev rest : Result (List Entry) Fault
   rest = entries-from (length s) s (board-end s)
 
-  by-entries : (c : Board) (r : Result (List Entry) Fault) → opened s ≡ Ok c → right-size (c .shims) (c .lines) ≡ true → rest ≡ r → (opened s ≡ Ok b) × (rest ≡ Ok es)
+  by-entries : (c : Board) (r : Result (List Entry) Fault) → opened s ≡ Ok c → is-size (c .shims) (c .lines) ≡ true → rest ≡ r → (opened s ≡ Ok b) × (rest ≡ Ok es)
   by-entries c (Ok ds) board size entries = let h : holds c ds ≡ holds b es = simp (board, size, entries) at read in (cc, cc)
   by-entries c (Err f) board size entries = let z : _≡_ {A = ℕ} 0 1 = cc (simp (board, size, entries) at read) in absurd (omega arith)
 
-  by-size : (c : Board) (t : Bool) → opened s ≡ Ok c → right-size (c .shims) (c .lines) ≡ t → (opened s ≡ Ok b) × (rest ≡ Ok es)
+  by-size : (c : Board) (t : Bool) → opened s ≡ Ok c → is-size (c .shims) (c .lines) ≡ t → (opened s ≡ Ok b) × (rest ≡ Ok es)
   by-size c true board size = by-entries c rest board size refl
   by-size c false board size = let z : _≡_ {A = ℕ} 0 1 = cc (simp (board, size) at read) in absurd (omega arith)
 
   by-board : (r : Result Board Fault) → opened s ≡ r → (opened s ≡ Ok b) × (rest ≡ Ok es)
-  by-board (Ok c) board = by-size c (right-size (c .shims) (c .lines)) board refl
+  by-board (Ok c) board = by-size c (is-size (c .shims) (c .lines)) board refl
   by-board (Err f) board = let z : _≡_ {A = ℕ} 0 1 = cc (simp board at read) in absurd (omega arith)
 
 pub only-written : (s : List ℕ) → OnlyWritten s

@@ -12,9 +12,9 @@ use Rattle.std.proofs.shelf.Lists.{drop-drop, drop-at, take-at, getD-drop}
 use Rattle.std.proofs.shelf.Tests.{cases-bool, lt-leb}
 use Rattle.std.specs.declared.result.Result.{Result}
 use Rattle.std.specs.declared.result.Result.the-variants.{Ok, Err}
-use Rattle.sheet.specs.declared.fault.Fault.{Fault}
-use Rattle.sheet.specs.declared.fault.FaultKind.the-variants.{WordCount, NoLineFeed}
-use Rattle.sheet.specs.Faults.{fault}
+use Rattle.words.specs.declared.fault.Fault.{Fault}
+use Rattle.words.specs.declared.fault.FaultKind.the-variants.{WordCount, NoLineFeed}
+use Rattle.words.specs.Faults.{fault}
 use Rattle.sheet.specs.Reading.{unless, wanted, line-ends, word-at, word-end}
 use Rattle.words.specs.Lengths.{line-feed, before, ends-word, word-length}
 

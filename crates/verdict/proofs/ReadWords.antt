@@ -18,7 +18,7 @@ use Rattle.std.specs.shelf.Text.{allDigits, sameBytes}
 use Rattle.std.specs.declared.option.Option.{Option}
 use Rattle.std.specs.declared.option.Option.the-variants.{Some, None}
 use Rattle.std.specs.declared.result.Result.the-variants.{Ok}
-use Rattle.sheet.specs.declared.fault.FaultKind.{FaultKind}
+use Rattle.words.specs.declared.fault.FaultKind.{FaultKind}
 use Rattle.sheet.specs.Format.{word-of, after-word, strength-words, fabric-words}
 use Rattle.sheet.specs.Reading.{wanted, line-ends, word-at, word-end, index-of, Operand, a-number, a-strength, a-fabric, operand-of, not-an, known, operand-at, operand-end, operands-at, operands-end}
 use Rattle.sheet.proofs.Ends.{then-ok, wanted-within, ends-within}

@@ -17,17 +17,17 @@ use Rattle.std.specs.declared.option.Option.the-variants.{Some, None}
 use Rattle.std.specs.declared.result.Result.{Result}
 use Rattle.std.specs.declared.result.Result.the-variants.{Ok, Err}
 use Rattle.rules.specs.declared.call.Call.the-variants as call
-use Rattle.sheet.specs.declared.fault.Fault.{Fault}
-use Rattle.sheet.specs.declared.fault.FaultKind.the-variants.{Header, UnknownWord, WordCount, TooLong}
+use Rattle.words.specs.declared.fault.Fault.{Fault}
+use Rattle.words.specs.declared.fault.FaultKind.the-variants.{Header, UnknownWord, WordCount, TooLong}
 use Rattle.sheet.specs.declared.line.Board.{Board}
 use Rattle.sheet.specs.declared.line.FabricName.{FabricName}
 use Rattle.sheet.specs.declared.line.FabricName.the-variants.{Ring, Frames, Staged}
 use Rattle.sheet.specs.declared.op.Op.{Op}
 use Rattle.sheet.specs.declared.op.Op.the-variants.{Load, Store, Fence, Evict, Up, Down}
-use Rattle.sheet.specs.Faults.{fault}
+use Rattle.words.specs.Faults.{fault}
 use Rattle.sheet.specs.Format.{header, size-limit, hash, fabric-words, fabric-number, board-word, board-words, after-word, words-line, Entry, a-call, a-note, entry-line, WellFormed, BoardFits}
 use Rattle.sheet.specs.Reading.{then, unless, wanted, line-ends, word-at, word-end, Operand, operand-of, operand-at, operand-end, operands-at, known, not-an, op-word, op-operands, call-of, op-of, call-at, note-at, line-at, line-end, entry-at, next-at, and-then, entries-from, fabric-named, board-operands, board-of, board-line-at, board-at, board-end, opened, wrong-board, entries-of, with-board}
-use Rattle.sheet.specs.Sizes.{right-size}
+use Rattle.rules.specs.Sizes.{is-size}
 use Rattle.verdict.specs.Laws.{ReadsBack}
 use Rattle.sheet.proofs.Ends.{then-ok, wanted-within}
 use Rattle.verdict.proofs.Places as places
@@ -281,4 +281,4 @@ reads-back s b es w small =
     let entries : entries-from (length s) s (board-end s) ≡ Ok es =
     entries-read es (length s) s (board-end s) (w .entries) (omega arith)
     (ap (λ n. drop n s) (board-ends s (length header) b (joined entry-line es) (w .board) line) ∙ places.drop-more s (words-line (board-words b)) (joined entry-line es) (length header) line) in
-    ap (with-board s) board ∙ ap (λ (r : Result (List Entry) Fault). cond (right-size (b .shims) (b .lines)) (entries-of b r) wrong-board) entries
+    ap (with-board s) board ∙ ap (λ (r : Result (List Entry) Fault). cond (is-size (b .shims) (b .lines)) (entries-of b r) wrong-board) entries

@@ -10,8 +10,8 @@ use Rattle.std.specs.declared.option.Option.{Option}
 use Rattle.std.specs.declared.option.Option.the-variants.{Some, None}
 use Rattle.std.specs.declared.result.Result.{Result}
 use Rattle.std.specs.declared.result.Result.the-variants.{Ok, Err}
-use Rattle.sheet.specs.declared.fault.Fault.{Fault}
-use Rattle.sheet.specs.Faults.{fault-number}
+use Rattle.words.specs.declared.fault.Fault.{Fault}
+use Rattle.words.specs.Faults.{fault-number}
 use Rattle.sheet.specs.Format.{Entry, a-call, a-note}
 use Rattle.sheet.specs.Reading.{Reading, faulty, wrong-board, holds, reading}
 use Rattle.verdict.specs.declared.verdict.Verdict.{Verdict}

@@ -6,9 +6,10 @@ ghost use Rattle.sheet.specs.Reading.{then, entries-from, reading};
 ghost use Rattle.verdict.specs.Laws.{OnlyWritten, ReadsBack};
 ghost use Rattle.verdict.specs.Verdicts.{calls-in, counted, feeds, line-number-at, verdict-of};
 use crate::verdict::Verdict;
-use sheet::Fault;
+use rules::is_board_size;
 use sheet::Line;
 use sheet::Reader;
+use words::Fault;
 
 // How many line feeds a text has.
 fn count_feeds(text: &[u8]) -> usize
@@ -57,7 +58,7 @@ fn count(sheet: &[u8]) -> Result<Option<usize>, Fault>
 {
     let mut reader = Reader::new(sheet);
     let board = reader.board()?;
-    if !board.has_right_size() {
+    if !is_board_size(board.shims, board.lines) {
         return Ok(None);
     }
     let calls = count_calls(reader)?;

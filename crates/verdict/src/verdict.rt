@@ -1,4 +1,4 @@
-use sheet::Fault;
+use words::Fault;
 
 // What a check tells of a sheet.
 #[derive(Clone, Copy)]

@@ -4,10 +4,10 @@ ghost use Rattle.std.specs.Results.{isOk};
 ghost use Rattle.std.specs.Vec.{made};
 ghost use Rattle.std.specs.declared.result.Result.the-variants.{Ok};
 ghost use Rattle.sheet.specs.Reading.{then, word-end, operands-at, operands-end, board-operands, board-of, board-at, board-end, opened};
-use crate::fault::Fault;
-use crate::fault::FaultKind;
 use crate::line::Board;
 use crate::reader::Reader;
+use words::Fault;
+use words::FaultKind;
 
 // The most bytes that a sheet may have.
 pub const SIZE_LIMIT: usize = 65536;

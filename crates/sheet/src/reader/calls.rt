@@ -4,11 +4,11 @@ ghost use Rattle.std.specs.declared.result.Result.the-variants.{Ok};
 ghost use Rattle.sheet.specs.declared.line.Line.the-variants.{Call as Called};
 ghost use Rattle.sheet.specs.Lines.{call-line-at};
 ghost use Rattle.sheet.specs.Reading.{then, word-end, operands-at, operands-end, op-operands, call-of};
-use crate::fault::Fault;
 use crate::line::Line;
 use crate::op::Op;
 use crate::reader::Reader;
 use rules::Call;
+use words::Fault;
 
 impl<'a> Reader<'a> {
     // The line of this call, whose operands follow the word that ends here.

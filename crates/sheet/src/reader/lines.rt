@@ -2,12 +2,12 @@ ghost use mathlib.Core.Path.{_≡_};
 ghost use lib.ListN.{getD};
 ghost use Rattle.sheet.specs.Format.{hash};
 ghost use Rattle.sheet.specs.Lines.{LineAt, NextLine};
-use crate::fault::Fault;
-use crate::fault::FaultKind;
 use crate::line::Line;
 use crate::op::Op;
 use crate::reader::Reader;
 use crate::token::Token;
+use words::Fault;
+use words::FaultKind;
 
 impl<'a> Reader<'a> {
     // The note that begins here.

@@ -5,14 +5,14 @@ ghost use Rattle.std.specs.Vec.{made};
 ghost use Rattle.std.specs.declared.result.Result.the-variants.{Ok};
 ghost use Rattle.sheet.specs.Reading.{then, keyword-at, word-end, a-number, a-strength, a-fabric, operand-at, operand-end, fabric-named};
 ghost use Rattle.sheet.specs.Tokens.{NextToken, token-end};
-use crate::fault::Fault;
-use crate::fault::FaultKind;
 use crate::line::FabricName;
 use crate::names::fabric_named;
 use crate::names::is_name;
 use crate::names::strength_named;
 use crate::reader::Reader;
 use crate::token::Token;
+use words::Fault;
+use words::FaultKind;
 
 impl<'a> Reader<'a> {
     // Goes past the word `name`, which is wanted here.

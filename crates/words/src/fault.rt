@@ -1,5 +1,5 @@
 ghost use mathlib.Core.Path.{_≡_};
-ghost use Rattle.sheet.specs.Faults.{fault-number};
+ghost use Rattle.words.specs.Faults.{fault-number};
 
 // What is wrong with a sheet.
 #[derive(Clone, Copy)]

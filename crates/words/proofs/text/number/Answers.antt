@@ -7,7 +7,7 @@ use lib.ListN.{drop, getD, drop-of-length-le}
 use Rattle.std.specs.shelf.Text.{allDigits}
 use Rattle.words.specs.Numbers.{largest, value-after}
 use Rattle.words.proofs.Digits.{digit-step, no-digit, value-step, value-ge, by-digits, by-size, taken}
-use Rattle.words.proofs.number.Needs as need
+use Rattle.words.proofs.text.number.Needs as need
 
 pub returns-then-not-is-ascii-digit : need.returns-then-not-is-ascii-digit
 returns-then-not-is-ascii-digit c =

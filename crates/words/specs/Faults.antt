@@ -1,8 +1,8 @@
 -- The number of each fault.
 use Prim.Native.Nat.{ℕ}
-use Rattle.sheet.specs.declared.fault.FaultKind.{FaultKind}
-use Rattle.sheet.specs.declared.fault.FaultKind.the-variants.{Header, UnknownWord, NotANumber, WordCount, NoLineFeed, TooLong}
-use Rattle.sheet.specs.declared.fault.Fault.{Fault}
+use Rattle.words.specs.declared.fault.FaultKind.{FaultKind}
+use Rattle.words.specs.declared.fault.FaultKind.the-variants.{Header, UnknownWord, NotANumber, WordCount, NoLineFeed, TooLong}
+use Rattle.words.specs.declared.fault.Fault.{Fault}
 
 abbrev pub fault-number : FaultKind → ℕ
 fault-number Header = 31

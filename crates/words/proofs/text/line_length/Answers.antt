@@ -5,7 +5,7 @@ use borrow.Author.Needs.{needs}
 use lib.ListN.{getD}
 use Rattle.words.specs.Lengths.{ends-line}
 use Rattle.words.proofs.Scan.{at-stop, at-end, goes-on}
-use Rattle.words.proofs.line_length.Needs as need
+use Rattle.words.proofs.text.line_length.Needs as need
 
 pub returns-then-ends-line : need.returns-then-ends-line
 returns-then-ends-line c =

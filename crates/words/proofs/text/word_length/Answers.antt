@@ -5,7 +5,7 @@ use borrow.Author.Needs.{needs}
 use lib.ListN.{getD}
 use Rattle.words.specs.Lengths.{ends-word}
 use Rattle.words.proofs.Scan.{at-stop, at-end, goes-on}
-use Rattle.words.proofs.word_length.Needs as need
+use Rattle.words.proofs.text.word_length.Needs as need
 
 pub returns-then-ends-word : need.returns-then-ends-word
 returns-then-ends-word c =
