@@ -1,3 +1,4 @@
 pub mod Kinds
+pub mod Requests
 pub mod Sizes
 pub mod Strengths
