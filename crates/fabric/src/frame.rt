@@ -97,23 +97,3 @@ fn stamp_in(bytes: &[u8]) -> u32
     stamp.copy_from_slice(bytes);
     u32::from_be_bytes(stamp)
 }
-
-#[cfg(test)]
-mod tests {
-    use super::*;
-    use std::test::*;
-
-    // Kind 1, mark 0x12, value 7: the value's low byte is the last of its four.
-    #[test]
-    fn high_byte_first() -> Result<(), Fail> {
-        let msg = Message {
-            kind: 1,
-            line: 0,
-            mark: 0x12,
-            sender: 0,
-            value: 7,
-            stamp: 0x0102,
-        };
-        check_eq(encode(msg), [1, 0, 0x12, 0, 0, 0, 0, 7, 0, 0, 1, 2])
-    }
-}

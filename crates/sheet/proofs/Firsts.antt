@@ -1,19 +1,18 @@
 -- The first byte of a word tells much of it.
-use mathlib.Core.Path.{_≡_, refl, sym, ap, subst, _∙_}
+use mathlib.Core.Path.{_≡_, refl, ap, _∙_}
 use mathlib.Core.Logic.{_⊎_, inl, inr, ⊎-elim}
-use mathlib.Core.Bool.{Bool, true, false, cond, _&&_}
+use mathlib.Core.Bool.{false, cond}
 use mathlib.Core.List.{List, [], _∷_}
-use Prim.Native.Nat.{ℕ, suc, _+_, _<_, _≤_}
+use Prim.Native.Nat.{ℕ, suc, _<_, _≤_}
 use native.Mathlib.Nat.{add-zero}
 use native.Mathlib.Omega.{arith}
 use borrow.Author.Needs.{needs}
-use lib.Dec.{eqb, leb}
-use lib.ListN.{length, getD, take, drop}
+use lib.Dec.{eqb}
+use lib.ListN.{getD, take, drop}
 use Rattle.std.proofs.shelf.Lists.{getD-drop}
 use Rattle.std.proofs.shelf.Tests.{cases-bool, ne-eqb, and-left}
 use Rattle.std.specs.Options.{mapped}
 use Rattle.std.specs.shelf.Text.{sameBytes}
-use Rattle.std.specs.declared.option.Option.{Option}
 use Rattle.std.specs.declared.option.Option.the-variants.{Some, None}
 use Rattle.sheet.specs.Format.{hash, strength-words, fabric-words}
 use Rattle.sheet.specs.Reading.{word-at, index-of}
@@ -32,16 +31,11 @@ front (b ∷ bs) =
 pub first-of-word : (s : List ℕ) (a : ℕ) → (word-at s a ≡ []) ⊎ (getD (word-at s a) 0 0 ≡ getD s a 0)
 first-of-word s a = ⊎-elim inl (λ e. inr (e ∙ getD-drop a s 0 0 ∙ ap (λ n. getD s n 0) (add-zero a))) (front (drop a s))
 
--- no number begins with a byte below the digits, none with one above
+-- no number begins with a byte below the digits
 pub low-is-no-number : (w : List ℕ) → getD w 0 0 < 48 → number-of w ≡ None
 low-is-no-number [] h = refl
 low-is-no-number (c ∷ []) h = search needs
 low-is-no-number (c ∷ d ∷ ds) h = search needs
-
-pub number-is-low : (w : List ℕ) (v : ℕ) → number-of w ≡ Some v → getD w 0 0 ≤ 57
-number-is-low [] v e = search needs
-number-is-low (c ∷ []) v e = search needs
-number-is-low (c ∷ d ∷ ds) v e = search needs
 
 -- all words of a list begin with a byte above the digits
 abbrev pub Letters : List (List ℕ) → Type 0

@@ -1,7 +1,7 @@
 -- What a sheet is read as: every list of bytes holds a board and its entries, or has a first fault.
 -- A place is a number of bytes from the start of the sheet s.
-use mathlib.Core.Bool.{Bool, cond, _&&_}
-use mathlib.Core.List.{List, [], _∷_, _++_}
+use mathlib.Core.Bool.{Bool, cond}
+use mathlib.Core.List.{List, [], _∷_}
 use Prim.Native.Nat.{ℕ, zero, suc, _+_}
 use lib.Chars.{codes}
 use lib.Dec.{eqb, leb, ltb}

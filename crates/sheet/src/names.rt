@@ -9,14 +9,14 @@ use crate::op::Op;
 use rules::Strength;
 
 // Whether a word is the name.
-pub fn is_name(word: &[u8], name: &[u8]) -> bool
+pub(crate) fn is_name(word: &[u8], name: &[u8]) -> bool
     ensures { λ r. ⌜ r ≡ sameBytes (now (word .entry)) (now (name .entry)) ⌝ }
 {
     word == name
 }
 
 // The strength of this name.
-pub fn strength_named(word: &[u8]) -> Option<Strength>
+pub(crate) fn strength_named(word: &[u8]) -> Option<Strength>
     ensures { λ r. ⌜ mapped strength-number r ≡ index-of strength-words (now (word .entry)) ⌝ }
 {
     if is_name(word, b"RLX") {
@@ -33,7 +33,7 @@ pub fn strength_named(word: &[u8]) -> Option<Strength>
 }
 
 // The fabric of this name.
-pub fn fabric_named(word: &[u8]) -> Option<FabricName>
+pub(crate) fn fabric_named(word: &[u8]) -> Option<FabricName>
     ensures { λ r. ⌜ mapped fabric-number r ≡ index-of fabric-words (now (word .entry)) ⌝ }
 {
     if is_name(word, b"ring") {
@@ -49,7 +49,7 @@ pub fn fabric_named(word: &[u8]) -> Option<FabricName>
 
 impl Op {
     // The word that the call begins with.
-    pub fn word(self) -> &'static [u8]
+    pub(crate) fn word(self) -> &'static [u8]
         ensures { λ r. ⌜ now r ≡ op-word self ⌝ }
     {
         match self {

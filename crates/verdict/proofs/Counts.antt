@@ -1,15 +1,13 @@
 -- Counting the calls of a sheet, line by line.
 use mathlib.Core.Path.{_≡_, refl, sym, ap, subst, _∙_}
-use mathlib.Core.Logic.{⊎-elim}
-use mathlib.Core.Bool.{Bool, true, false, cond}
-use mathlib.Core.List.{List, [], _∷_}
+use mathlib.Core.Bool.{cond}
+use mathlib.Core.List.{List, _∷_}
 use Prim.Native.Nat.{ℕ, zero, suc, _+_, _≤_, _<_}
 use native.Mathlib.Nat.{add-zero}
 use native.Mathlib.Omega.{arith}
-use lib.Dec.{leb}
 use lib.ListN.{length}
 use denote.Ref.{RefT}
-use Rattle.std.proofs.shelf.Tests.{cases-lt, le-leb}
+use Rattle.std.proofs.shelf.Tests.{le-leb}
 use Rattle.std.specs.declared.option.Option.{Option}
 use Rattle.std.specs.declared.option.Option.the-variants.{Some, None}
 use Rattle.std.specs.declared.result.Result.{Result}
@@ -18,7 +16,7 @@ use Rattle.rules.specs.declared.call.Call.{Call}
 use Rattle.words.specs.declared.fault.Fault.{Fault}
 use Rattle.sheet.specs.declared.line.Line.{Line}
 use Rattle.sheet.specs.declared.line.Line.the-variants as line
-use Rattle.sheet.specs.Format.{Entry, a-call, a-note}
+use Rattle.sheet.specs.Format.{Entry}
 use Rattle.sheet.specs.Lines.{NextLine, entry-of, next-told, next-place}
 use Rattle.sheet.specs.Reading.{then, next-at, entry-at, and-then, entries-from, line-end}
 use Rattle.verdict.specs.Verdicts.{calls-in}

@@ -1,18 +1,15 @@
 -- What is found at a place of a sheet whose bytes from there on are known.
 use mathlib.Core.Path.{_≡_, refl, sym, ap, _∙_}
-use mathlib.Core.Logic.{⊎-elim}
-use mathlib.Core.Bool.{Bool, true, false, cond, _||_}
+use mathlib.Core.Bool.{Bool, true, false, cond}
 use mathlib.Core.List.{List, [], _∷_, _++_}
-use Prim.Native.Nat.{ℕ, suc, _+_, _-_, _<_, _≤_}
+use Prim.Native.Nat.{ℕ, suc, _+_, _<_}
 use native.Mathlib.Nat.{add-zero}
 use native.Mathlib.Omega.{arith}
-use lib.Dec.{eqb, leb}
+use lib.Dec.{eqb}
 use lib.ListN.{length, getD, take, drop, length-drop}
 use Rattle.std.proofs.shelf.Lists.{drop-drop, drop-at, take-at, getD-drop}
-use Rattle.std.proofs.shelf.Tests.{cases-bool, lt-leb}
-use Rattle.std.specs.declared.result.Result.{Result}
+use Rattle.std.proofs.shelf.Tests.{lt-leb}
 use Rattle.std.specs.declared.result.Result.the-variants.{Ok, Err}
-use Rattle.words.specs.declared.fault.Fault.{Fault}
 use Rattle.words.specs.declared.fault.FaultKind.the-variants.{WordCount, NoLineFeed}
 use Rattle.words.specs.Faults.{fault}
 use Rattle.sheet.specs.Reading.{unless, wanted, line-ends, word-at, word-end}

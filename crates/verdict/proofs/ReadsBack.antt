@@ -1,18 +1,17 @@
 -- A well-formed sheet is read as what it was written from.
 use mathlib.Core.Path.{_≡_, refl, sym, ap, subst, _∙_}
 use mathlib.Core.Logic.{⊎-elim}
-use mathlib.Core.Bool.{Bool, true, false, cond, _||_}
-use mathlib.Core.List.{List, [], _∷_, _++_, append-assoc, append-nil}
+use mathlib.Core.Bool.{Bool, true, false, cond}
+use mathlib.Core.List.{List, [], _∷_, _++_, append-assoc}
 use Prim.Native.Nat.{ℕ, zero, suc, _+_, _<_, _≤_}
 use native.Mathlib.Omega.{arith}
-use lib.Dec.{eqb, leb}
+use lib.Dec.{eqb}
 use lib.ListN.{length, getD, take, drop, length-append, length-drop}
 use Rattle.std.proofs.shelf.Lists.{take-at}
 use Rattle.std.proofs.shelf.Tests.{cases-bool, or-parts, le-leb, lt-leb, le-ltb}
 use Rattle.std.specs.Joined.{joined}
 use Rattle.std.specs.shelf.Lists.{All}
 use Rattle.std.specs.shelf.Text.{sameBytes}
-use Rattle.std.specs.declared.option.Option.{Option}
 use Rattle.std.specs.declared.option.Option.the-variants.{Some, None}
 use Rattle.std.specs.declared.result.Result.{Result}
 use Rattle.std.specs.declared.result.Result.the-variants.{Ok, Err}
@@ -26,13 +25,13 @@ use Rattle.sheet.specs.declared.op.Op.{Op}
 use Rattle.sheet.specs.declared.op.Op.the-variants.{Load, Store, Fence, Evict, Up, Down}
 use Rattle.words.specs.Faults.{fault}
 use Rattle.sheet.specs.Format.{header, size-limit, hash, fabric-words, fabric-number, board-word, board-words, after-word, words-line, Entry, a-call, a-note, entry-line, WellFormed, BoardFits}
-use Rattle.sheet.specs.Reading.{then, unless, wanted, line-ends, word-at, word-end, Operand, operand-of, operand-at, operand-end, operands-at, known, not-an, op-word, op-operands, call-of, op-of, call-at, note-at, line-at, line-end, entry-at, next-at, and-then, entries-from, fabric-named, board-operands, board-of, board-line-at, board-at, board-end, opened, wrong-board, entries-of, with-board}
+use Rattle.sheet.specs.Reading.{then, unless, wanted, word-at, word-end, Operand, operand-of, operand-at, operand-end, operands-at, known, not-an, op-word, op-operands, call-of, op-of, call-at, note-at, line-at, line-end, entry-at, and-then, entries-from, fabric-named, board-operands, board-of, board-line-at, board-at, board-end, opened, wrong-board, entries-of, with-board}
 use Rattle.rules.specs.Sizes.{is-size}
 use Rattle.verdict.specs.Laws.{ReadsBack}
 use Rattle.sheet.proofs.Ends.{then-ok, wanted-within}
 use Rattle.verdict.proofs.Places as places
 use Rattle.verdict.proofs.Places.{Free, before-free}
-use Rattle.verdict.proofs.Spelling.{spelled, Fit, spelled-all, Fits, spelled-back, spelled-free}
+use Rattle.verdict.proofs.Spelling.{spelled, spelled-all, Fits, spelled-back, spelled-free}
 use Rattle.words.specs.Lengths.{space, line-feed, ends-word, ends-line, line-length}
 
 -- what follows a word begins with a byte that ends it

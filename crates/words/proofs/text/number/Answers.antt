@@ -1,10 +1,7 @@
 use mathlib.Core.Path.{_≡_, sym, _∙_}
-use mathlib.Core.Bool.{true, false}
 use Prim.Native.Nat.{_<_, _≤_, _+_, _*_, _-_}
 use native.Mathlib.Omega.{arith}
-use borrow.Author.Needs.{needs}
 use lib.ListN.{drop, getD, drop-of-length-le}
-use Rattle.std.specs.shelf.Text.{allDigits}
 use Rattle.words.specs.Numbers.{largest, value-after}
 use Rattle.words.proofs.Digits.{digit-step, no-digit, value-step, value-ge, by-digits, by-size, taken}
 use Rattle.words.proofs.text.number.Needs as need
