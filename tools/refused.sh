@@ -5,21 +5,29 @@ set -eu
 cd "$(dirname "$0")/.."
 copy=$(mktemp -d)
 trap 'rm -rf "$copy"' EXIT
+
+field() { sed -n "s/^$1: //p" "$2"; }
+
+# The file with the old text, which must stand in it once, replaced by the new.
+edited() { # EDIT FILE
+    OLD=$(field old "$1") NEW=$(field new "$1") awk '
+        { text = text $0 "\n" }
+        END {
+            old = ENVIRON["OLD"]
+            at = index(text, old)
+            rest = substr(text, at + length(old))
+            if (!at || index(rest, old)) exit 3
+            printf "%s%s%s", substr(text, 1, at - 1), ENVIRON["NEW"], rest
+        }' "$2"
+}
+
 bad=0
 for edit in crates/*/refused/*.edit; do
     crate=${edit#crates/} crate=${crate%%/*}
+    error=$(field error "$edit") file=crates/$crate/$(field file "$edit")
     rm -rf "$copy/crates"
     cp -r crates crates.txt "$copy"
-    error=$(python3 - "$edit" "$copy/crates/$crate" <<'PY'
-import pathlib, sys
-lines = dict(line.split(': ', 1) for line in pathlib.Path(sys.argv[1]).read_text().splitlines())
-path = pathlib.Path(sys.argv[2], lines['file'])
-text = path.read_text()
-assert text.count(lines['old']) == 1, sys.argv[1] + ': the old text must stand once'
-path.write_text(text.replace(lines['old'], lines['new']))
-print(lines['error'])
-PY
-    )
+    edited "$edit" "$file" >"$copy/$file" || { echo "$edit: the old text must stand once"; bad=1; continue; }
     if (cd "$copy" && rt dev "$crate") 2>&1 | grep -q "error\[$error\]"; then
         echo "$edit: refused: $error"
     else

@@ -21,12 +21,7 @@ impl<'a> Reader<'a> {
                 self.end_line()?;
                 Ok(Line::Note(text))
             }
-            Token::Keyword { place, .. } | Token::Number { place, .. } => {
-                Err(Fault {
-                    kind: FaultKind::UnknownWord,
-                    place,
-                })
-            }
+            Token::Keyword { .. } | Token::Number { .. } => unreachable(),
         }
     }
 
