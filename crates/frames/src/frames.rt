@@ -190,39 +190,3 @@ pub impl<'a> Fabric for Frames<'a> as FramesFabric {
         }
     }
 }
-
-#[cfg(test)]
-mod tests {
-    use super::*;
-    use fabric::FabricFaultDebug;
-    use std::test::*;
-
-    // Two frames for one shim: lane 1 is the second, and its only slot is used again after a take.
-    #[test]
-    fn one_slot_a_lane() -> Result<(), Fail> {
-        let mut bytes = [0; 2 * FRAME_LEN];
-        let first = Message {
-            kind: 1,
-            line: 0,
-            mark: 0,
-            sender: 0,
-            value: 5,
-            stamp: 0,
-        };
-        let second = Message {
-            kind: 2,
-            line: 0,
-            mark: 0,
-            sender: 0,
-            value: 6,
-            stamp: 0,
-        };
-        let mut frames = Frames::new(&mut bytes, 1);
-        frames.put(1, first)?;
-        frames.take(1)?;
-        frames.put(1, second)?;
-        check_eq(bytes[0], 0)?;
-        check_eq(bytes[FRAME_LEN], 2)?;
-        check_eq(bytes[FRAME_LEN + 7], 6)
-    }
-}

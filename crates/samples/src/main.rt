@@ -32,3 +32,31 @@ fn main(rt: LibcRuntime) -> io::Result<()> {
         Err(fault) => println!(rt, "refused {}", fault.number()),
     }
 }
+
+#[cfg(test)]
+mod tests {
+    use super::*;
+    use fabric::Fabric;
+    use fabric::FabricFaultDebug;
+    use frames::Frames;
+    use frames::FramesFabric;
+    use std::test::*;
+
+    // Two frames for one shim: lane 1 is the second, and its only slot is used again after a take.
+    #[test]
+    fn one_slot_a_lane() -> Result<(), Fail> {
+        let mut bytes = [0; 2 * FRAME_LEN];
+        let mut frames = Frames::new(&mut bytes, 1);
+        frames.put(1, store_request(0, 0, Strength::Relaxed, true, 5))?;
+        check(
+            frames
+                .put(1, store_request(0, 0, Strength::Relaxed, true, 6))
+                .is_err(),
+        )?;
+        frames.take(1)?;
+        frames.put(1, store_request(0, 3, Strength::Relaxed, true, 6))?;
+        check_eq(bytes[0], 0)?;
+        check_eq(bytes[FRAME_LEN + 1], 3)?;
+        check_eq(bytes[FRAME_LEN + 7], 6)
+    }
+}
