@@ -26,7 +26,7 @@ fn show(rt: &LibcRuntime, name: &str, text: &[u8]) -> io::Result<()> {
     rt.stdout().write_all(&line)
 }
 
-// Checks each sheet that the arguments name, and then sheets as long as one may be and longer.
+// Checks each sheet that the arguments name, an endless one among them, and then sheets as long as one may be and longer.
 fn main(rt: LibcRuntime) -> io::Result<()> {
     for name in env::args(&rt)?.skip(1) {
         let mut text = Vec::new(rt.alloc());

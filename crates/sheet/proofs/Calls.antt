@@ -22,9 +22,9 @@ use Rattle.sheet.specs.declared.line.Line.the-variants as line
 use Rattle.sheet.specs.declared.op.Op.{Op}
 use Rattle.sheet.specs.declared.op.Op.the-variants.{Load, Store, Fence, Evict, Up, Down}
 use Rattle.words.specs.Faults.{fault}
-use Rattle.sheet.specs.Format.{hash, a-call}
+use Rattle.sheet.specs.Format.{hash, a-call, op-word}
 use Rattle.sheet.specs.Lines.{told, InPlace, LineAt, call-line-at}
-use Rattle.sheet.specs.Reading.{then, unless, wanted, keyword-at, word-at, word-end, line-end, operands-at, operands-end, op-word, op-operands, op-of, call-of, call-at, note-at, entry-at}
+use Rattle.sheet.specs.Reading.{then, unless, wanted, keyword-at, word-at, word-end, line-end, operands-at, operands-end, op-operands, op-of, call-of, call-at, note-at, entry-at}
 use Rattle.sheet.proofs.Ends.{then-ok, operands-line, line-end-of-word}
 use Rattle.sheet.proofs.Firsts.{first-of-word}
 

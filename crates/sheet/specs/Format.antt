@@ -11,6 +11,8 @@ use Rattle.rules.specs.declared.call.Call.the-variants as call
 use Rattle.sheet.specs.declared.line.Board.{Board}
 use Rattle.sheet.specs.declared.line.FabricName.{FabricName}
 use Rattle.sheet.specs.declared.line.FabricName.the-variants.{Ring, Frames, Staged}
+use Rattle.sheet.specs.declared.op.Op.{Op}
+use Rattle.sheet.specs.declared.op.Op.the-variants.{Load, Store, Fence, Evict, Up, Down}
 use Rattle.words.specs.Lengths.{space, line-feed, line-length}
 use Rattle.words.specs.Numbers.{largest}
 
@@ -41,14 +43,23 @@ fabric-number Staged = 2
 abbrev pub word-of : List (List ℕ) → ℕ → List ℕ
 word-of ws k = getD ws k []
 
+-- the word that each call begins with
+abbrev pub op-word : Op → List ℕ
+op-word Load = codes "load"
+op-word Store = codes "store"
+op-word Fence = codes "fence"
+op-word Evict = codes "evict"
+op-word Up = codes "up"
+op-word Down = codes "down"
+
 -- the words of a call
 abbrev pub call-words : Call → List (List ℕ)
-call-words (call.Load shim line k) = codes "load" ∷ decimal shim ∷ decimal line ∷ word-of strength-words k ∷ []
-call-words (call.Store shim line k value) = codes "store" ∷ decimal shim ∷ decimal line ∷ word-of strength-words k ∷ decimal value ∷ []
-call-words (call.Fence shim k) = codes "fence" ∷ decimal shim ∷ word-of strength-words k ∷ []
-call-words (call.Evict shim line) = codes "evict" ∷ decimal shim ∷ decimal line ∷ []
-call-words (call.Up shim) = codes "up" ∷ decimal shim ∷ []
-call-words (call.Down shim) = codes "down" ∷ decimal shim ∷ []
+call-words (call.Load shim line k) = op-word Load ∷ decimal shim ∷ decimal line ∷ word-of strength-words k ∷ []
+call-words (call.Store shim line k value) = op-word Store ∷ decimal shim ∷ decimal line ∷ word-of strength-words k ∷ decimal value ∷ []
+call-words (call.Fence shim k) = op-word Fence ∷ decimal shim ∷ word-of strength-words k ∷ []
+call-words (call.Evict shim line) = op-word Evict ∷ decimal shim ∷ decimal line ∷ []
+call-words (call.Up shim) = op-word Up ∷ decimal shim ∷ []
+call-words (call.Down shim) = op-word Down ∷ decimal shim ∷ []
 
 -- the words of the board line
 abbrev pub board-word : List ℕ

@@ -13,9 +13,9 @@ use Rattle.words.specs.declared.fault.Fault.{Fault}
 use Rattle.sheet.specs.declared.line.Line.{Line}
 use Rattle.sheet.specs.declared.line.Line.the-variants.{Call, Note}
 use Rattle.sheet.specs.declared.op.Op.{Op}
-use Rattle.sheet.specs.Format.{Entry, a-call, a-note}
+use Rattle.sheet.specs.Format.{Entry, a-call, a-note, op-word}
 use Rattle.sheet.specs.Places.{Part}
-use Rattle.sheet.specs.Reading.{then, keyword-at, word-end, operands-at, op-word, op-operands, call-of, entry-at, next-at, line-end}
+use Rattle.sheet.specs.Reading.{then, keyword-at, word-end, operands-at, op-operands, call-of, entry-at, next-at, line-end}
 use Rattle.words.specs.Lengths.{line-length}
 
 -- the entry that a line is

@@ -3,7 +3,6 @@
 use mathlib.Core.Bool.{Bool, cond}
 use mathlib.Core.List.{List, [], _∷_}
 use Prim.Native.Nat.{ℕ, zero, suc, _+_}
-use lib.Chars.{codes}
 use lib.Dec.{eqb, leb, ltb}
 use lib.ListN.{length, getD, take, drop}
 use Rattle.std.specs.Options.{mapped}
@@ -23,7 +22,7 @@ use Rattle.sheet.specs.declared.line.FabricName.the-variants.{Ring, Frames, St
 use Rattle.sheet.specs.declared.op.Op.{Op}
 use Rattle.sheet.specs.declared.op.Op.the-variants.{Load, Store, Fence, Evict, Up, Down}
 use Rattle.words.specs.Faults.{fault}
-use Rattle.sheet.specs.Format.{header, size-limit, hash, board-word, strength-words, fabric-words, Entry, a-call, a-note}
+use Rattle.sheet.specs.Format.{header, size-limit, hash, op-word, board-word, strength-words, fabric-words, Entry, a-call, a-note}
 use Rattle.rules.specs.Sizes.{is-size}
 use Rattle.words.specs.Lengths.{line-feed, word-length, line-length}
 use Rattle.words.specs.Numbers.{number-of}
@@ -98,15 +97,7 @@ abbrev pub operands-end : List Operand → List ℕ → ℕ → ℕ
 operands-end [] s a = a + 1
 operands-end (o ∷ os) s a = operands-end os s (operand-end s a)
 
--- the word that each call begins with, and its operands
-abbrev pub op-word : Op → List ℕ
-op-word Load = codes "load"
-op-word Store = codes "store"
-op-word Fence = codes "fence"
-op-word Evict = codes "evict"
-op-word Up = codes "up"
-op-word Down = codes "down"
-
+-- the operands of each call
 abbrev pub op-operands : Op → List Operand
 op-operands Load = a-number ∷ a-number ∷ a-strength ∷ []
 op-operands Store = a-number ∷ a-number ∷ a-strength ∷ a-number ∷ []

@@ -20,8 +20,8 @@ use Rattle.std.specs.declared.result.Result.the-variants.{Ok, Err}
 use Rattle.words.specs.declared.fault.Fault.{Fault}
 use Rattle.sheet.specs.declared.op.Op.{Op}
 use Rattle.sheet.specs.declared.op.Op.the-variants.{Load, Store, Fence, Evict, Up, Down}
-use Rattle.sheet.specs.Format.{hash, words-line, Entry, a-call, a-note, entry-line, WellFormed}
-use Rattle.sheet.specs.Reading.{then, wanted, line-ends, word-at, word-end, line-at, line-end, Operand, operands-at, operands-end, op-word, op-operands, op-of, call-of, call-at, note-at, entry-at, next-at, and-then, entries-from}
+use Rattle.sheet.specs.Format.{hash, words-line, Entry, a-call, a-note, entry-line, WellFormed, op-word}
+use Rattle.sheet.specs.Reading.{then, wanted, line-ends, word-at, word-end, line-at, line-end, Operand, operands-at, operands-end, op-operands, op-of, call-of, call-at, note-at, entry-at, next-at, and-then, entries-from}
 use Rattle.sheet.proofs.Ends.{then-ok, wanted-within, operands-line, line-end-of-word}
 use Rattle.words.specs.Lengths.{before, word-length, line-length}
 use Rattle.verdict.proofs.ReadWords.{Stands, stands-on, stands-as, taken-stands, byte-stands, word-stops, feed-stands, operands-read}

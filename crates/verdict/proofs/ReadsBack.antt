@@ -24,8 +24,8 @@ use Rattle.sheet.specs.declared.line.FabricName.the-variants.{Ring, Frames, Sta
 use Rattle.sheet.specs.declared.op.Op.{Op}
 use Rattle.sheet.specs.declared.op.Op.the-variants.{Load, Store, Fence, Evict, Up, Down}
 use Rattle.words.specs.Faults.{fault}
-use Rattle.sheet.specs.Format.{header, size-limit, hash, fabric-words, fabric-number, board-word, board-words, after-word, words-line, Entry, a-call, a-note, entry-line, WellFormed, BoardFits}
-use Rattle.sheet.specs.Reading.{then, unless, wanted, word-at, word-end, Operand, operand-of, operand-at, operand-end, operands-at, known, not-an, op-word, op-operands, call-of, op-of, call-at, note-at, line-at, line-end, entry-at, and-then, entries-from, fabric-named, board-operands, board-of, board-line-at, board-at, board-end, opened, wrong-board, entries-of, with-board}
+use Rattle.sheet.specs.Format.{header, size-limit, hash, fabric-words, fabric-number, board-word, board-words, after-word, words-line, Entry, a-call, a-note, entry-line, WellFormed, BoardFits, op-word}
+use Rattle.sheet.specs.Reading.{then, unless, wanted, word-at, word-end, Operand, operand-of, operand-at, operand-end, operands-at, known, not-an, op-operands, call-of, op-of, call-at, note-at, line-at, line-end, entry-at, and-then, entries-from, fabric-named, board-operands, board-of, board-line-at, board-at, board-end, opened, wrong-board, entries-of, with-board}
 use Rattle.rules.specs.Sizes.{is-size}
 use Rattle.verdict.specs.Laws.{ReadsBack}
 use Rattle.sheet.proofs.Ends.{then-ok, wanted-within}
