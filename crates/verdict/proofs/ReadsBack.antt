@@ -28,6 +28,7 @@ use Rattle.sheet.specs.Format.{header, size-limit, hash, fabric-words, fabric-n
 use Rattle.sheet.specs.Reading.{then, unless, wanted, word-at, word-end, Operand, operand-of, operand-at, operand-end, operands-at, known, not-an, op-operands, call-of, op-of, call-at, note-at, line-at, line-end, entry-at, and-then, entries-from, fabric-named, board-operands, board-of, board-line-at, board-at, board-end, opened, wrong-board, entries-of, with-board}
 use Rattle.rules.specs.Sizes.{is-size}
 use Rattle.verdict.specs.Laws.{ReadsBack}
+use Rattle.sheet.proofs.Calls.{initial}
 use Rattle.sheet.proofs.Ends.{then-ok, wanted-within}
 use Rattle.verdict.proofs.Places as places
 use Rattle.verdict.proofs.Places.{Free, before-free}
@@ -128,10 +129,7 @@ all-free [] vs fits = tt
 all-free (o ∷ os) [] fits = absurd fits
 all-free (o ∷ os) (v ∷ vs) fits = (spelled-free o v (fits .0), all-free os vs (fits .1))
 
--- the word that a call begins with
-abbrev initial : Op → ℕ
-initial op = getD (op-word op) 0 0
-
+-- the word that a call begins with, after its first byte
 abbrev others : Op → List ℕ
 others op = drop 1 (op-word op)
 
