@@ -9,11 +9,11 @@ use rules::{Call, Outcome};
 impl Board {
     // Makes a call on the board.
     pub fn call<F: Fabric>(&mut self, fabric: &mut F, call: Call) -> Outcome
-        requires { lawful fabric.old }
-        ensures lawful { lawful fabric.new }
-        ensures lender { lender fabric.new ≡ lender fabric.old }
+        requires { F.Fabric.lawful fabric.old }
+        ensures lawful { F.Fabric.lawful fabric.new }
+        ensures lender { F.Fabric.lender fabric.new ≡ F.Fabric.lender fabric.old }
         ensures size { self.new.size ≡ self.old.size }
-        ensures rule { after result self.new.state (model fabric.new) ≡ call_rule backing self.old.size self.old.state (model fabric.old) call }
+        ensures rule { after result self.new.state (F.Fabric.model fabric.new) ≡ call_rule F.Fabric.backing self.old.size self.old.state (F.Fabric.model fabric.old) call }
     {
         match call {
             Call::Load {

@@ -11,8 +11,8 @@ use rules::{Refusal, Wait};
 impl Board {
     // The shim of that number, where the fabric's lanes are the board's.
     pub(crate) fn shim<F: Fabric>(&self, fabric: &F, shim: u32) -> Result<usize, Refusal>
-        requires { lawful fabric.now }
-        ensures { result ≡ passing (wrong_lanes self.now.size (model fabric.now).lanes ∷ no_shim self.now.size shim ∷ []) shim }
+        requires { F.Fabric.lawful fabric.now }
+        ensures { result ≡ passing (wrong_lanes self.now.size (F.Fabric.model fabric.now).lanes ∷ no_shim self.now.size shim ∷ []) shim }
     {
         if fabric.lane_count() != 2 * self.size.shims {
             return Err(Refusal::WrongSize);
@@ -30,8 +30,8 @@ impl Board {
         shim: u32,
         line: u32,
     ) -> Result<(usize, usize), Refusal>
-        requires { lawful fabric.now }
-        ensures { result ≡ passing (wrong_lanes self.now.size (model fabric.now).lanes ∷ no_shim self.now.size shim ∷ no_line self.now.size line ∷ []) (shim, line) }
+        requires { F.Fabric.lawful fabric.now }
+        ensures { result ≡ passing (wrong_lanes self.now.size (F.Fabric.model fabric.now).lanes ∷ no_shim self.now.size shim ∷ no_line self.now.size line ∷ []) (shim, line) }
     {
         let s = self.shim(fabric, shim)?;
         let x = line as usize;
@@ -48,11 +48,11 @@ impl Board {
         shim: u32,
         lane: usize,
     ) -> Result<Message, Refusal>
-        requires { (lawful fabric.old) × (lane < 2 * shim + 2) }
-        ensures lawful { lawful fabric.new }
-        ensures lender { lender fabric.new ≡ lender fabric.old }
-        ensures same { model fabric.new ≡ model fabric.old }
-        ensures message { result ≡ passing (message_checks self.now.size (model fabric.old).lanes shim lane) (first_on (model fabric.old).lanes lane) }
+        requires { (F.Fabric.lawful fabric.old) × (lane < 2 * shim + 2) }
+        ensures lawful { F.Fabric.lawful fabric.new }
+        ensures lender { F.Fabric.lender fabric.new ≡ F.Fabric.lender fabric.old }
+        ensures same { F.Fabric.model fabric.new ≡ F.Fabric.model fabric.old }
+        ensures message { result ≡ passing (message_checks self.now.size (F.Fabric.model fabric.old).lanes shim lane) (first_on (F.Fabric.model fabric.old).lanes lane) }
     {
         self.shim(fabric, shim)?;
         let msg = fabric.look(lane)?;

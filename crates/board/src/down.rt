@@ -10,11 +10,11 @@ use rules::{Outcome, Refusal};
 impl Board {
     // Hands the first message of a shim's down lane to the shim.
     pub fn down<F: Fabric>(&mut self, fabric: &mut F, shim: u32) -> Outcome
-        requires { lawful fabric.old }
-        ensures lawful { lawful fabric.new }
-        ensures lender { lender fabric.new ≡ lender fabric.old }
+        requires { F.Fabric.lawful fabric.old }
+        ensures lawful { F.Fabric.lawful fabric.new }
+        ensures lender { F.Fabric.lender fabric.new ≡ F.Fabric.lender fabric.old }
         ensures size { self.new.size ≡ self.old.size }
-        ensures rule { after result self.new.state (model fabric.new) ≡ down_rule backing self.old.size self.old.state (model fabric.old) shim }
+        ensures rule { after result self.new.state (F.Fabric.model fabric.new) ≡ down_rule F.Fabric.backing self.old.size self.old.state (F.Fabric.model fabric.old) shim }
     {
         let lane = 2 * shim as usize + 1;
         let msg = self.first(fabric, shim, lane)?;

@@ -9,11 +9,11 @@ use rules::{Answer, Hold, Outcome, Refusal, ShimLine, drop_request};
 impl Board {
     // An eviction of a line by a shim: it is not held any more, and the hub is told.
     pub fn evict<F: Fabric>(&mut self, fabric: &mut F, shim: u32, line: u32) -> Outcome
-        requires { lawful fabric.old }
-        ensures lawful { lawful fabric.new }
-        ensures lender { lender fabric.new ≡ lender fabric.old }
+        requires { F.Fabric.lawful fabric.old }
+        ensures lawful { F.Fabric.lawful fabric.new }
+        ensures lender { F.Fabric.lender fabric.new ≡ F.Fabric.lender fabric.old }
         ensures size { self.new.size ≡ self.old.size }
-        ensures rule { after result self.new.state (model fabric.new) ≡ evict_rule backing self.old.size self.old.state (model fabric.old) shim line }
+        ensures rule { after result self.new.state (F.Fabric.model fabric.new) ≡ evict_rule F.Fabric.backing self.old.size self.old.state (F.Fabric.model fabric.old) shim line }
     {
         let (s, x) = self.place(fabric, shim, line)?;
         if self.waits(s) {

@@ -9,11 +9,11 @@ use rules::{Access, Answer, Outcome, Refusal, Strength, Wait, fence_request};
 impl Board {
     // A fence by a shim: a request goes up, and the shim waits.
     pub fn fence<F: Fabric>(&mut self, fabric: &mut F, shim: u32, strength: u8) -> Outcome
-        requires { lawful fabric.old }
-        ensures lawful { lawful fabric.new }
-        ensures lender { lender fabric.new ≡ lender fabric.old }
+        requires { F.Fabric.lawful fabric.old }
+        ensures lawful { F.Fabric.lawful fabric.new }
+        ensures lender { F.Fabric.lender fabric.new ≡ F.Fabric.lender fabric.old }
         ensures size { self.new.size ≡ self.old.size }
-        ensures rule { after result self.new.state (model fabric.new) ≡ fence_rule backing self.old.size self.old.state (model fabric.old) shim strength }
+        ensures rule { after result self.new.state (F.Fabric.model fabric.new) ≡ fence_rule F.Fabric.backing self.old.size self.old.state (F.Fabric.model fabric.old) shim strength }
     {
         let s = self.shim(fabric, shim)?;
         if Strength::fitting(Access::Fence, strength).is_none() {

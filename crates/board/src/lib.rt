@@ -1,4 +1,6 @@
 // The board: a hub and its shims over any fabric. Each call gives what its rule in the crate `rules` says.
+#![tactic(auto)]
+
 mod board;
 mod call;
 mod checks;

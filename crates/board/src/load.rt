@@ -9,11 +9,11 @@ use rules::{Access, Answer, Hold, Outcome, Refusal, Strength, Wait, load_request
 impl Board {
     // A load by a shim of a line: a held line answers its copy; otherwise a request goes up, and the shim waits.
     pub fn load<F: Fabric>(&mut self, fabric: &mut F, shim: u32, line: u32, strength: u8) -> Outcome
-        requires { lawful fabric.old }
-        ensures lawful { lawful fabric.new }
-        ensures lender { lender fabric.new ≡ lender fabric.old }
+        requires { F.Fabric.lawful fabric.old }
+        ensures lawful { F.Fabric.lawful fabric.new }
+        ensures lender { F.Fabric.lender fabric.new ≡ F.Fabric.lender fabric.old }
         ensures size { self.new.size ≡ self.old.size }
-        ensures rule { after result self.new.state (model fabric.new) ≡ load_rule backing self.old.size self.old.state (model fabric.old) shim line strength }
+        ensures rule { after result self.new.state (F.Fabric.model fabric.new) ≡ load_rule F.Fabric.backing self.old.size self.old.state (F.Fabric.model fabric.old) shim line strength }
     {
         let (s, x) = self.place(fabric, shim, line)?;
         let Some(strength) = Strength::fitting(Access::Load, strength) else {

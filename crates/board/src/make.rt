@@ -10,8 +10,8 @@ use rules::{Hold, HubLine, MAX_LINES, Refusal, Shim, ShimLine, Size, State, Wait
 impl Board {
     // A board of so many shims and lines over a fabric.
     pub fn new<F: Fabric>(fabric: &F, shims: u32, lines: u32) -> Result<Board, Refusal>
-        requires { lawful fabric.now }
-        ensures { made_of result ≡ make_rule (model fabric.now).lanes shims lines }
+        requires { F.Fabric.lawful fabric.now }
+        ensures { made_of result ≡ make_rule (F.Fabric.model fabric.now).lanes shims lines }
     {
         if !is_board_size(shims, lines) {
             return Err(Refusal::WrongSize);
@@ -35,8 +35,8 @@ impl Board {
 
 // Whether a message waits on one of the first lanes.
 fn any_waits<F: Fabric>(fabric: &F, lanes: usize) -> bool
-    requires { lawful fabric.now }
-    ensures { result ≡ any_waits (model fabric.now).lanes lanes }
+    requires { F.Fabric.lawful fabric.now }
+    ensures { result ≡ any_waits (F.Fabric.model fabric.now).lanes lanes }
 {
     for lane in 0..lanes {
         if fabric.waiting(lane) > 0 {

@@ -45,11 +45,11 @@ impl Board {
         strength: u8,
         value: Word,
     ) -> Outcome
-        requires { lawful fabric.old }
-        ensures lawful { lawful fabric.new }
-        ensures lender { lender fabric.new ≡ lender fabric.old }
+        requires { F.Fabric.lawful fabric.old }
+        ensures lawful { F.Fabric.lawful fabric.new }
+        ensures lender { F.Fabric.lender fabric.new ≡ F.Fabric.lender fabric.old }
         ensures size { self.new.size ≡ self.old.size }
-        ensures rule { after result self.new.state (model fabric.new) ≡ store_rule backing self.old.size self.old.state (model fabric.old) shim line strength value }
+        ensures rule { after result self.new.state (F.Fabric.model fabric.new) ≡ store_rule F.Fabric.backing self.old.size self.old.state (F.Fabric.model fabric.old) shim line strength value }
     {
         let (s, x) = self.place(fabric, shim, line)?;
         let Some(strength) = Strength::fitting(Access::Store, strength) else {

@@ -15,8 +15,8 @@ use rules::{Answer, HubLine, Kind, Outcome, Refusal};
 
 // Whether a shim is to be sent something and its lane is full.
 fn is_blocked<F: Fabric>(fabric: &F, hub: HubLine, msg: Message, kind: Kind, shim: usize) -> bool
-    requires { (lawful fabric.now) × ((shim < shim_limit) × (goes_up hub (Some kind) ≡ true)) }
-    ensures { result ≡ (is_some (sent_by hub msg shim kind) && is_full (model fabric.now).lanes (down_lane shim)) }
+    requires { (F.Fabric.lawful fabric.now) × ((shim < shim_limit) × (goes_up hub (Some kind) ≡ true)) }
+    ensures { result ≡ (is_some (sent_by hub msg shim kind) && is_full (F.Fabric.model fabric.now).lanes (down_lane shim)) }
 {
     let lane = 2 * shim + 1;
     reply(hub, msg, kind, shim).is_some() && fabric.waiting(lane) >= fabric.capacity(lane)
@@ -30,8 +30,8 @@ fn room<F: Fabric>(
     msg: Message,
     kind: Kind,
 ) -> Result<(), FabricFault>
-    requires { (lawful fabric.now) × ((shims ≤ shim_limit) × (goes_up hub (Some kind) ≡ true)) }
-    ensures { wrapped result ≡ passing (full_lanes (λ j. sent_by hub msg j kind) (model fabric.now).lanes shims) tt }
+    requires { (F.Fabric.lawful fabric.now) × ((shims ≤ shim_limit) × (goes_up hub (Some kind) ≡ true)) }
+    ensures { wrapped result ≡ passing (full_lanes (λ j. sent_by hub msg j kind) (F.Fabric.model fabric.now).lanes shims) tt }
 {
     for shim in 0..shims {
         if is_blocked(fabric, hub, msg, kind, shim) {
@@ -43,14 +43,14 @@ fn room<F: Fabric>(
 
 // Sends each shim what it is to be sent. There is room for it.
 fn send<F: Fabric>(fabric: &mut F, shims: usize, hub: HubLine, msg: Message, kind: Kind)
-    requires lawful { lawful fabric.old }
+    requires lawful { F.Fabric.lawful fabric.old }
     requires few { shims ≤ shim_limit }
     requires goes_up { goes_up hub (Some kind) ≡ true }
-    requires lanes { length (model fabric.old).lanes ≡ 2 * shims }
-    requires room { HasRoom (λ j. sent_by hub msg j kind) (model fabric.old).lanes shims }
-    ensures lawful { lawful fabric.new }
-    ensures lender { lender fabric.new ≡ lender fabric.old }
-    ensures sent { model fabric.new ≡ send_all backing (λ j. sent_by hub msg j kind) (model fabric.old) shims }
+    requires lanes { length (F.Fabric.model fabric.old).lanes ≡ 2 * shims }
+    requires room { HasRoom (λ j. sent_by hub msg j kind) (F.Fabric.model fabric.old).lanes shims }
+    ensures lawful { F.Fabric.lawful fabric.new }
+    ensures lender { F.Fabric.lender fabric.new ≡ F.Fabric.lender fabric.old }
+    ensures sent { F.Fabric.model fabric.new ≡ send_all F.Fabric.backing (λ j. sent_by hub msg j kind) (F.Fabric.model fabric.old) shims }
 {
     for shim in 0..shims {
         if let Some(answer) = reply(hub, msg, kind, shim) {
@@ -76,11 +76,11 @@ impl Board {
     }
     // The hub performs the first message of a shim's up lane.
     pub fn up<F: Fabric>(&mut self, fabric: &mut F, shim: u32) -> Outcome
-        requires { lawful fabric.old }
-        ensures lawful { lawful fabric.new }
-        ensures lender { lender fabric.new ≡ lender fabric.old }
+        requires { F.Fabric.lawful fabric.old }
+        ensures lawful { F.Fabric.lawful fabric.new }
+        ensures lender { F.Fabric.lender fabric.new ≡ F.Fabric.lender fabric.old }
         ensures size { self.new.size ≡ self.old.size }
-        ensures rule { after result self.new.state (model fabric.new) ≡ up_rule backing self.old.size self.old.state (model fabric.old) shim }
+        ensures rule { after result self.new.state (F.Fabric.model fabric.new) ≡ up_rule F.Fabric.backing self.old.size self.old.state (F.Fabric.model fabric.old) shim }
     {
         let lane = 2 * shim as usize;
         let msg = self.first(fabric, shim, lane)?;

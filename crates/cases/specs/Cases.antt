@@ -41,6 +41,6 @@ pub record Cases : Type 0 where
   -- one full lane among the sharers, that of shim 2: the up of a store by shim 0 is refused, and tells that lane
   pub one_full :
       (up_rule no_backing (small 3) shared_line
-      (record { lanes = set_messages (put_on no_backing (quiet 3) (up_lane 0) (store_message 0 0 (strength_number Relaxed) false 7)).lanes (down_lane 2) (replicate ring_capacity (update 1)); state = tt }) 0).outcome
+      (record { lanes = set_messages (put_on no_backing (quiet 3) (up_lane 0) (store_message 0 0 Relaxed false 7)).lanes (down_lane 2) (replicate ring_capacity (update 1)); state = tt }) 0).outcome
       ≡ Err (Fabric (Full (down_lane 2)))
   pub one_full_number : refusal_number (Fabric (Full (down_lane 2))) ≡ 10

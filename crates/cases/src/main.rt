@@ -1,4 +1,6 @@
 // Prints cases: the frame of a store, a message carried through two stages over frames, and what a board says at its limits.
+#![tactic(auto)]
+
 ghost use Rattle.std.specs.Prelude.{◌≡◌, [], ◌∷◌};
 ghost use Rattle.cases.specs.Cases.{Cases};
 

@@ -1,3 +1,5 @@
+#![tactic(auto)]
+
 use sheet::SIZE_LIMIT;
 use std::alloc::{AllocError, Global};
 use std::fs::File;

@@ -1,4 +1,6 @@
 // What a message does: at the hub, whose line changes and which sends others, and at a shim, whose line and wait change.
+#![tactic(auto)]
+
 mod hub;
 mod shim;
 

@@ -1,7 +1,7 @@
 -- Lanes that are kept as queues in a table of slots: what a put and a take make of them.
 use Rattle.std.proofs.Common.{◌≡◌, ℕ, zero, suc, ◌+◌, ◌-◌, ◌%◌, ◌<◌, ◌≢◌, ◌⊎◌, List, [], ◌∷◌, ◌++◌, length, get_or, sym, refl, ap, ◌∙◌, subst, ⊎_elim, add-zero, mod-lt, mod-eq_of_lt, add-one, arith, length-set, get_or-set_other, get_or-set_same}
-use native.Mathlib.Nat.{mod_add_mod, mod_eq_sub_mod, mod_mod}
-use lib.ListN.{length_replicate}
+use native.Mathlib.Nat.{mod-add-mod, mod-eq-sub-mod, mod-mod}
+use lib.ListN.{length-replicate}
 use Rattle.std.proofs.lemmas.List.FromFn.{length-map-range_with_len, get_or-map-range_with_len, fill_by_all}
 use Rattle.std.proofs.lemmas.List.{get_or-replicate}
 use Rattle.std.proofs.lemmas.Bool.{cases_lt, cases_eq}
@@ -15,11 +15,11 @@ slots_apart cap f i c h k e =
     let r : ℕ = (f + i) % cap in
     let low : (f + i) % cap < cap = mod-lt (f + i) (omega arith) in
     let on : ((f + i) % cap + (c - i)) % cap ≡ (f + c) % cap =
-    mod_add_mod (f + i) cap (c - i) ∙ ap (λ n. n % cap) (omega arith) in
+    mod-add-mod (f + i) cap (c - i) ∙ ap (λ n. n % cap) (omega arith) in
     ⊎_elim
     (λ l. let s : ((f + i) % cap + (c - i)) % cap ≡ (f + i) % cap + (c - i) = mod-eq_of_lt l in omega arith)
     (λ l.
-    let s : ((f + i) % cap + (c - i)) % cap ≡ ((f + i) % cap + (c - i) - cap) % cap = mod_eq_sub_mod l in
+    let s : ((f + i) % cap + (c - i)) % cap ≡ ((f + i) % cap + (c - i) - cap) % cap = mod-eq-sub-mod l in
     let t : ((f + i) % cap + (c - i) - cap) % cap ≡ (f + i) % cap + (c - i) - cap = mod-eq_of_lt (omega arith) in
     omega arith)
     (cases_lt ((f + i) % cap + (c - i)) cap)
@@ -51,7 +51,7 @@ unfolding queue
 queue_mod at cap f g zero e = refl
 queue_mod at cap f g (suc c) e =
     let s : queue at cap (f + 1) c ≡ queue at cap (g + 1) c =
-    queue_mod at cap (f + 1) (g + 1) c (sym (mod_add_mod f cap 1) ∙ ap (λ n. (n + 1) % cap) e ∙ mod_add_mod g cap 1) in
+    queue_mod at cap (f + 1) (g + 1) c (sym (mod-add-mod f cap 1) ∙ ap (λ n. (n + 1) % cap) e ∙ mod-add-mod g cap 1) in
     λ i. at (e i) ∷ s i
 
 -- a put writes the slot after those in use
@@ -66,7 +66,7 @@ pub queue_take : (at : ℕ → Message) (cap f c : ℕ) → 0 < c → queue at c
 unfolding queue
 queue_take at cap f zero h = absurd (omega arith)
 queue_take at cap f (suc c) h =
-    ap (λ l. at (f % cap) ∷ l) (queue_mod at cap (f + 1) ((f + 1) % cap) c (sym (mod_mod (f + 1) cap)) ∙ ap (λ n. queue at cap ((f + 1) % cap) n) (omega arith))
+    ap (λ l. at (f % cap) ∷ l) (queue_mod at cap (f + 1) ((f + 1) % cap) c (sym (mod-mod (f + 1) cap)) ∙ ap (λ n. queue at cap ((f + 1) % cap) n) (omega arith))
 
 pub queue_none : (at : ℕ → Message) (cap f : ℕ) → queue at cap f 0 ≡ []
 unfolding queue
@@ -96,4 +96,4 @@ module _ (n : ℕ) (lane : ℕ → Lane) where
 
 pub lanes_empty : (n c : ℕ) (lane : ℕ → Lane) → ((j : ℕ) → j < n → lane j ≡ record { capacity = c; messages = [] }) → lanes_by n lane ≡ empty_lanes n c
 lanes_empty n c lane o =
-    sym (lanes_are n lane (empty_lanes n c) (length_replicate n _) (λ j l. get_or-replicate n j _ no_lane l ∙ sym (o j l)))
+    sym (lanes_are n lane (empty_lanes n c) (length-replicate n _) (λ j l. get_or-replicate n j _ no_lane l ∙ sym (o j l)))

@@ -1,6 +1,6 @@
 -- What calls on a fabric answer, and make of its lanes, where these are kept as queues.
 use Rattle.std.proofs.Common.{◌≡◌, ℕ, ◌+◌, ◌-◌, ◌%◌, ◌<◌, ◌≤◌, cond, ltb, ◌≢◌, ◌⊎◌, List, [], ◌∷◌, ◌++◌, length, get_or, set, replicate, Ok, Err, sym, refl, ap, ◌∙◌, subst, inl, inr, ⊎_elim, mod-lt, arith, length-set, get_or-set_other, get_or-set_same}
-use lib.ListN.{length_replicate}
+use lib.ListN.{length-replicate}
 use Rattle.std.proofs.lemmas.List.{get_or-replicate, get_or_past}
 use Rattle.std.proofs.lemmas.Bool.{cases_eq, cases_lt, lt-ltb, le-ltb}
 use Rattle.fabric.specs.declared.message.Message.{Message}
@@ -19,7 +19,7 @@ set_within xs bound i v h l s k =
     (cases_eq k i)
 
 zeros : (n z k : ℕ) → get_or (replicate n z) k z ≡ z
-zeros n z k = ⊎_elim (λ h. get_or-replicate n k z z h) (λ h. get_or_past (replicate n z) k z (omega (arith, length_replicate n z))) (cases_lt k n)
+zeros n z k = ⊎_elim (λ h. get_or-replicate n k z z h) (λ h. get_or_past (replicate n z) k z (omega (arith, length-replicate n z))) (cases_lt k n)
 
 -- queues just made: every lane begins at slot 0, and nothing waits
 module _ (slot : ℕ → ℕ → Message) (n capacity : ℕ) where

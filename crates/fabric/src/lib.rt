@@ -1,3 +1,5 @@
+#![tactic(auto)]
+
 mod fabric;
 mod fault;
 mod frame;

@@ -3,6 +3,8 @@
 // with a stamp that the board never reaches. An up or a down that comes to such a message refuses it as foreign, number 12 with the
 // lane, and leaves the board and every lane as they were. The modules `going_up` and `coming_down` have a test for each of
 // these, and `neighbours` has messages next to them that a hand can put too and that are performed.
+#![tactic(auto)]
+
 #[cfg(test)]
 mod coming_down;
 #[cfg(test)]

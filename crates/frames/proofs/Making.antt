@@ -1,6 +1,6 @@
 -- A fabric just made over a buffer.
 use Rattle.std.proofs.Common.{◌≡◌, ℕ, ◌*◌, ◌/◌, ◌≤◌, true, false, ◌&&◌, leb, List, [], length, replicate, sym, ◌∙◌, subst, ⊎_elim, mul-le-mul_right, div-add-mod', arith}
-use native.Mathlib.Nat.{min_le_left, min_le_right}
+use native.Mathlib.Nat.{min-le_left, min-le_right}
 use Rattle.std.proofs.lemmas.Bool.{cases_Bool, and_parts, leb-true, cond-true, cond-false}
 use Rattle.fabric.specs.Frame.{frame_bytes}
 use Rattle.fabric.specs.Lanes.{shim_limit, lane_limit, capacity_limit, empty_lanes}
@@ -27,8 +27,8 @@ module _ (bs : List ℕ) (n : ℕ) where
       let q = and_parts (leb 1 n) (leb n shim_limit) p.0 in
       let one : 1 ≤ capacity_for len n = leb-true 1 _ p.1 in
       let few : n ≤ shim_limit = leb-true n shim_limit q.1 in
-      let most : capacity_for len n ≤ capacity_limit = min_le_right (len / (2 * frame_bytes * n)) capacity_limit in
-      let part : capacity_for len n * (2 * frame_bytes * n) ≤ len / (2 * frame_bytes * n) * (2 * frame_bytes * n) = mul-le-mul_right (2 * frame_bytes * n) (min_le_left (len / (2 * frame_bytes * n)) capacity_limit) in
+      let most : capacity_for len n ≤ capacity_limit = min-le_right (len / (2 * frame_bytes * n)) capacity_limit in
+      let part : capacity_for len n * (2 * frame_bytes * n) ≤ len / (2 * frame_bytes * n) * (2 * frame_bytes * n) = mul-le-mul_right (2 * frame_bytes * n) (min-le_left (len / (2 * frame_bytes * n)) capacity_limit) in
       let whole : len / (2 * frame_bytes * n) * (2 * frame_bytes * n) ≤ len = omega (arith, div-add-mod' len (2 * frame_bytes * n)) in
       record {
         lawful = record { queues = new_lawful _ (2 * n) c (omega arith) (λ _. one) most; bytes_enough = omega (arith, part, whole) };

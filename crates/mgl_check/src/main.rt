@@ -1,3 +1,5 @@
+#![tactic(auto)]
+
 use sheet::SIZE_LIMIT;
 use std::io;
 use std::io::{Read, Write};

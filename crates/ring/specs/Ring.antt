@@ -2,7 +2,8 @@
 use Rattle.std.specs.Prelude.{◌≡◌, ℕ, ◌+◌, ◌*◌, cond, List, length, nat_le, slice_index_or}
 use Rattle.fabric.specs.declared.message.Message.{Message}
 use Rattle.fabric.specs.Lanes.{shim_limit, lane_limit, empty_lanes}
-use Rattle.fabric.specs.Backing.{Model, no_backing}
+use Rattle.fabric.specs.Backing.{Model}
+pub use Rattle.fabric.specs.Backing.{no_backing}
 use Rattle.fabric.specs.Queue.{Queues, QueuesLawful, queue_lanes}
 use Rattle.ring.specs.declared.ring.Ring.{Ring}
 

@@ -1,3 +1,5 @@
+#![tactic(auto)]
+
 mod ring;
 
 pub use ring::{RING_CAPACITY, Ring};

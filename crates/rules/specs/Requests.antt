@@ -3,20 +3,24 @@ use Rattle.std.specs.Prelude.{ℕ, Bool, false, not}
 use Rattle.fabric.specs.declared.message.Message.{Message}
 use Rattle.rules.specs.declared.kind.Kind.{Kind}
 use Rattle.rules.specs.declared.kind.Kind.TheVariants.{Write, ReadRequest, FenceRequest, Drop}
+use Rattle.rules.specs.declared.strength.Strength.{Strength}
 use Rattle.rules.specs.declared.strength.Strength.TheVariants.{SeqCst}
 use Rattle.rules.specs.Kinds.{kind_number}
-use Rattle.rules.specs.Strengths.{strength_number, mark_of}
+use Rattle.rules.specs.Strengths.{strength_number, numbered_mark, mark_of}
 
 -- a load of a line that the shim does not hold
 abbrev pub load_message : ℕ → ℕ → ℕ → Message
-load_message s x g = record { kind = kind_number ReadRequest; line = x; mark = mark_of g false; sender = s; value = 0; stamp = 0 }
+load_message s x g = record { kind = kind_number ReadRequest; line = x; mark = numbered_mark g false; sender = s; value = 0; stamp = 0 }
 
--- a store: it asks to be synchronised where the shim does not hold the line
-abbrev pub store_message : ℕ → ℕ → ℕ → Bool → ℕ → Message
-store_message s x g held v = record { kind = kind_number Write; line = x; mark = mark_of g (not held); sender = s; value = v; stamp = 0 }
+-- a store: it asks to be synchronised where the shim does not hold the line; first with a strength by its number
+abbrev pub numbered_store : ℕ → ℕ → ℕ → Bool → ℕ → Message
+numbered_store s x g held v = record { kind = kind_number Write; line = x; mark = numbered_mark g (not held); sender = s; value = v; stamp = 0 }
+
+abbrev pub store_message : ℕ → ℕ → Strength → Bool → ℕ → Message
+store_message shim line k held value = numbered_store shim line (strength_number k) held value
 
 abbrev pub fence_message : ℕ → Message
-fence_message s = record { kind = kind_number FenceRequest; line = 0; mark = mark_of (strength_number SeqCst) false; sender = s; value = 0; stamp = 0 }
+fence_message s = record { kind = kind_number FenceRequest; line = 0; mark = mark_of SeqCst false; sender = s; value = 0; stamp = 0 }
 
 -- an eviction
 abbrev pub drop_message : ℕ → ℕ → Message

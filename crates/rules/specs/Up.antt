@@ -16,7 +16,7 @@ use Rattle.rules.specs.Checks.{After, after, unless_refused, message_checks, for
 use Rattle.rules.specs.Kinds.{kind_number, kind_of, kind_at}
 use Rattle.rules.specs.Refusals.{Check, refuse_if}
 use Rattle.rules.specs.State.{stamp_limit, up_lane, down_lane, hub_at, shares, with_hub}
-use Rattle.rules.specs.Strengths.{strength_number, mark_of, mark_strength, is_sc, asks_sync}
+use Rattle.rules.specs.Strengths.{mark_of, mark_strength, is_sc, asks_sync}
 
 -- WHO IS SENT WHAT
 
@@ -35,7 +35,7 @@ abbrev pub read_message : HubLine → Message → Message
 read_message h m = record { kind = kind_number ReadResponse; line = m.line; mark = m.mark; sender = m.sender; value = h.word; stamp = h.stamp }
 
 abbrev pub fenced_message : Kind → Message → Message
-fenced_message k m = record { kind = kind_number k; line = 0; mark = mark_of (strength_number SeqCst) false; sender = m.sender; value = 0; stamp = 0 }
+fenced_message k m = record { kind = kind_number k; line = 0; mark = mark_of SeqCst false; sender = m.sender; value = 0; stamp = 0 }
 
 -- a message, or none
 abbrev pub sent_if : Bool → Message → Option Message

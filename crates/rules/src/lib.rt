@@ -1,5 +1,7 @@
 // The words of the protocol (kinds, strengths, calls, answers, refusals), the state of a board, and the messages that shims send.
 // The rules of the calls are definitions: specs/ has a file for each.
+#![tactic(auto)]
+
 mod answer;
 mod call;
 mod event;

@@ -70,7 +70,7 @@ impl Strength {
 
     // The mark of a message of this strength.
     pub fn mark(self, synchronise: bool) -> u8
-        ensures { result ≡ mark_of (strength_number self) synchronise }
+        ensures { result ≡ mark_of self synchronise }
     {
         if synchronise {
             self.number() + SYNCHRONISE

@@ -1,7 +1,7 @@
 -- An up is a step of the machine: the hub performs the first message of a shim's up lane.
 use Rattle.std.proofs.Common.{◌≡◌, ℕ, ◌*◌, ◌<◌, Bool, true, false, cond, not, eqb, leb, ◌≢◌, List, ◌∷◌, ◌++◌, map, length, get_or, set, Some, None, Ok, Option, unwrap_or, sym, refl, ap, ◌∙◌, subst, add-one, arith, length-set}
 use mathlib.Core.Bool.{false≢true}
-use mathlib.Core.List.{map_append}
+use mathlib.Core.List.{map-append}
 use Rattle.std.proofs.lemmas.Bool.{eqb-true, eq-eqb, ne_eqb, leb-false, not-false, or_parts}
 use Rattle.fabric.proofs.Changes.{changed}
 use Rattle.fabric.specs.Backing.{Backing, Model, take_on}
@@ -134,7 +134,7 @@ module _ {ω : Backing} (z : Size) (b : State) (φ : Model ω) (s : ℕ) (fits :
         shares = λ x j. each_line (λ a h h'. shares h' j ≡ shares_after (eqb s j) a (shares h j)) (rw (← own) (after_it.bits j)) (λ h. nothing_kept (eqb s j) (shares h j)) x;
         down =
             λ j lt. ap (map notice_of) (down.here j lt ∙ ap (λ (ms : List Message). ms ++ list_of (sent_to b m j)) (lane.there (down_lane j) (omega arith)))
-            ∙ map_append notice_of (messages_of φ.lanes (down_lane j)) (list_of (sent_to b m j))
+            ∙ map-append notice_of (messages_of φ.lanes (down_lane j)) (list_of (sent_to b m j))
             ∙ ap (λ (ns : List Notice). map notice_of (messages_of φ.lanes (down_lane j)) ++ ns) (rw (← own) (agrees b m j (kind_at m) goes));
         shim = λ j. record { wait = refl; line = λ x. refl };
         other_up = λ j ne. ap (map request_of) (down.there (up_lane j) (λ i lt. omega arith) ∙ lane.there (up_lane j) (omega arith));

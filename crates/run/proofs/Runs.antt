@@ -2,7 +2,7 @@
 use Rattle.std.proofs.Common.{◌≡◌, ℕ, zero, suc, ◌*◌, ◌<◌, ◌≤◌, Bool, true, false, cond, ◌&&◌, ltb, leb, List, [], ◌∷◌, ◌++◌, map, length, get_or, replicate, Some, Ok, Err, sym, refl, ap, ◌∙◌, subst, ⊎_elim, append_assoc, append-nil, arith}
 use mathlib.Core.Bool.{false≢true}
 use mathlib.Core.Option.{some}
-use lib.ListN.{length_replicate, get_or-replicate}
+use lib.ListN.{length-replicate, get_or-replicate}
 use Rattle.std.proofs.lemmas.List.{get_or_past, nil_from_length}
 use Rattle.std.proofs.lemmas.Bool.{cases_lt, ltb-false, leb-true, not-false, or_parts, and_parts}
 use Rattle.fabric.specs.Backing.{Backing, Model}
@@ -56,15 +56,15 @@ runs_on ω z (e ∷ es) t b φ fits r =
 -- what holds of a and of the default holds of every entry of a table of a
 all_alike : {A : Type 0} (P : A → Type 0) (n i : ℕ) (a d : A) → P a → P d → P (get_or (replicate n a) i d)
 all_alike P n i a d pa pd =
-    ⊎_elim (λ (lt : i < n). rw (get_or-replicate n i a d lt) pa) (λ (le : n ≤ i). let l = length_replicate n a in rw (get_or_past (replicate n a) i d (omega arith)) pd) (cases_lt i n)
+    ⊎_elim (λ (lt : i < n). rw (get_or-replicate n i a d lt) pa) (λ (le : n ≤ i). let l = length-replicate n a in rw (get_or_past (replicate n a) i d (omega arith)) pd) (cases_lt i n)
 
 fresh_fits : (z : Size) → z.shims ≤ shim_limit → z.lines ≤ line_limit → Fits z fresh_state
 fresh_fits z few short =
     record {
-      hub = rw length_replicate short;
-      shims = rw length_replicate few;
-      lines = λ s lt. rw (get_or-replicate shim_limit s fresh_shim _ (omega arith), length_replicate) short;
-      sharers = λ x lt. rw (get_or-replicate line_limit x fresh_hub_line _ (omega arith), length_replicate) few;
+      hub = rw length-replicate short;
+      shims = rw length-replicate few;
+      lines = λ s lt. rw (get_or-replicate shim_limit s fresh_shim _ (omega arith), length-replicate) short;
+      sharers = λ x lt. rw (get_or-replicate line_limit x fresh_hub_line _ (omega arith), length-replicate) few;
     }
 
 fresh_meaning : (lanes : List Lane) → ((k : ℕ) → messages_of lanes k ≡ []) → Fresh (meaning fresh_state lanes)

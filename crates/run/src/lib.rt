@@ -1,4 +1,6 @@
 // One call that makes a board and runs a list of calls on it. Its contract has the rules and the common order of the run.
+#![tactic(auto)]
+
 mod bytes;
 mod run;
 

@@ -12,11 +12,11 @@ pub fn run_events<F: Fabric>(
     fabric: &mut F,
     events: &mut [Event],
 ) -> Result<Board, Refusal>
-    requires { lawful fabric.old }
-    ensures lawful { lawful fabric.new }
-    ensures lender { lender fabric.new ≡ lender fabric.old }
-    ensures rules { left_by result events.new (model fabric.new) ≡ whole_rule backing (model fabric.old) shims lines events.old }
-    ensures order { Ordered result events.new (model fabric.new).lanes }
+    requires { F.Fabric.lawful fabric.old }
+    ensures lawful { F.Fabric.lawful fabric.new }
+    ensures lender { F.Fabric.lender fabric.new ≡ F.Fabric.lender fabric.old }
+    ensures rules { left_by result events.new (F.Fabric.model fabric.new) ≡ whole_rule F.Fabric.backing (F.Fabric.model fabric.old) shims lines events.old }
+    ensures order { Ordered result events.new (F.Fabric.model fabric.new).lanes }
 {
     let mut board = Board::new(&*fabric, shims, lines)?;
     for i in 0..events.len() {

@@ -1,3 +1,5 @@
+#![tactic(auto)]
+
 use session::BUFFER_LEN;
 use sheet::SIZE_LIMIT;
 use std::fs::File;

@@ -5,7 +5,7 @@ use Rattle.words.specs.declared.fault.Fault.{Fault}
 use Rattle.rules.specs.Sizes.{is_size}
 use Rattle.sheet.specs.Format.{Entry, a_call}
 use Rattle.sheet.specs.Format as format
-use Rattle.sheet.specs.Reading.{then, and_then, opened, with_board, entries_of, board_end, next_at, entry_at, entries_from, line_end}
+use Rattle.sheet.specs.Reading.{followed_by, and_then, opened, with_board, entries_of, board_end, next_at, entry_at, entries_from, line_end}
 use Rattle.sheet.specs.declared.line.Board.{Board}
 use Rattle.sheet.specs.Reading as reading
 use Rattle.verdict.specs.Verdicts.{line_number_at, counted, told}
@@ -20,14 +20,14 @@ over_quiet s (suc k) = over_quiet s k
 
 -- beyond the end there is no line
 at_end : (s : List ℕ) (a : ℕ) → length s ≤ a → next_at s a ≡ Ok None
-at_end s a h = ap (λ t. cond t (Ok None) (then (entry_at s a) (λ e. Ok (Some e)))) (le-leb (length s) a h)
+at_end s a h = ap (λ t. cond t (Ok None) (followed_by (entry_at s a) (λ e. Ok (Some e)))) (le-leb (length s) a h)
 
 -- what the reading of lines has for a fault
 abbrev lines_complain : List ℕ → Result (List Entry) Fault → Option Item
 lines_complain s (Ok es) = None
 lines_complain s (Err f) = Some (a_fault f (line_number_at s f.place))
 
-after_entry : (s : List ℕ) (e : Entry) (r : Result (List Entry) Fault) → lines_complain s r ≡ lines_complain s (then r (λ es. Ok (e ∷ es)))
+after_entry : (s : List ℕ) (e : Entry) (r : Result (List Entry) Fault) → lines_complain s r ≡ lines_complain s (followed_by r (λ es. Ok (e ∷ es)))
 after_entry s e (Ok es) = refl
 after_entry s e (Err f) = refl
 
@@ -38,7 +38,7 @@ lines_agree s (suc k) p h = go (next_at s p.place) (lines_agree s k)
   where
     go : (r : Result (Option Entry) Fault)
         → ((q : Running) → length s ≤ k + q.place → complaint_in (items_from (suc k) s (running q)) ≡ lines_complain s (entries_from k s q.place))
-        → complaint_in ((line_told s p r).0 ∷ items_from (suc k) s (line_told s p r).1) ≡ lines_complain s (then r (λ next. and_then next (entries_from k s (line_end s p.place + 1))))
+        → complaint_in ((line_told s p r).0 ∷ items_from (suc k) s (line_told s p r).1) ≡ lines_complain s (followed_by r (λ next. and_then next (entries_from k s (line_end s p.place + 1))))
     go (Ok (Some (a_call c))) later = later (call_made s p c) (omega arith) ∙ after_entry s (a_call c) (entries_from k s (line_end s p.place + 1))
     go (Ok (Some (format.a_note text))) later = later (past_line s p) (omega arith) ∙ after_entry s (format.a_note text) (entries_from k s (line_end s p.place + 1))
     go (Ok None) later = over_quiet s (suc k)

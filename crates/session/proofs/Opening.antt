@@ -1,6 +1,6 @@
 -- A board over lanes just made: nothing waits, so that its making is not refused.
 use Rattle.std.proofs.Common.{◌≡◌, ℕ, zero, suc, ◌*◌, ◌<◌, ◌≤◌, true, false, ◌&&◌, ◌||◌, eqb, ltb, leb, ◌⊎◌, List, [], length, get_or, Ok, Err, sym, refl, ap, ◌∙◌, inl, inr, arith}
-use lib.ListN.{length_replicate, get_or-replicate}
+use lib.ListN.{length-replicate, get_or-replicate}
 use Rattle.std.proofs.lemmas.Bool.{eq-eqb, leb-true, and_parts}
 use Rattle.fabric.specs.Lanes.{Lane, shim_limit, no_lane, empty_lanes, messages_of}
 use Rattle.rules.specs.Make.{any_waits, make_rule}
@@ -22,7 +22,7 @@ none_waits n capacity (suc k) h =
 
 pub made_over_empty : (n m capacity : ℕ) (e : Refusal) → is_size n m ≡ true → Err e ≡ make_rule (empty_lanes (2 * n) capacity) n m → ⊥
 made_over_empty n m capacity e h q =
-    let lanes = eq-eqb (length (empty_lanes (2 * n) capacity)) (2 * n) (length_replicate (2 * n) (record { capacity = capacity; messages = [] })) in
+    let lanes = eq-eqb (length (empty_lanes (2 * n) capacity)) (2 * n) (length-replicate (2 * n) (record { capacity = capacity; messages = [] })) in
     let quiet = none_waits (2 * n) capacity (2 * n) (omega arith) in
     let made : make_rule (empty_lanes (2 * n) capacity) n m ≡ Ok (record { shims = n; lines = m }, fresh_state) = rw (h, lanes, quiet) in
     let both = q ∙ made in

@@ -1,4 +1,6 @@
 // A sheet that is run: what it prints, item by item, and the bytes of each.
+#![tactic(auto)]
+
 mod carrier;
 mod next;
 mod open;

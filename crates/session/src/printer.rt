@@ -12,7 +12,7 @@ use crate::session::Session;
 use fabric::FabricFault;
 use rules::{Answer, Kind, Outcome, Refusal};
 use std::alloc::{AllocError, Global};
-use verdict::{Verdict, write_number, write_verdict};
+use verdict::{Verdict, put_number, put_verdict};
 
 // The word of a kind.
 fn kind_word(kind: Kind) -> &'static [u8]
@@ -34,7 +34,7 @@ fn write_spaced(heap: Global, out: &mut Vec<u8>, n: usize) -> Result<(), AllocEr
     ensures { OnOk result (out.new.items ≡ out.old.items ++ (space ∷ decimal n)) }
 {
     out.extend_from_slice(b" ")?;
-    write_number(heap, out, n)
+    put_number(heap, out, n)
 }
 
 // Writes what a refusal carries.
@@ -61,7 +61,7 @@ fn write_answer(heap: Global, out: &mut Vec<u8>, answer: Answer) -> Result<(), A
         Answer::Waits => out.extend_from_slice(b"waits"),
         Answer::Value(word) => {
             out.extend_from_slice(b"value ")?;
-            write_number(heap, out, word as usize)
+            put_number(heap, out, word as usize)
         }
         Answer::Ended => out.extend_from_slice(b"ended"),
         Answer::Handled(kind) => out.extend_from_slice(kind_word(kind)),
@@ -99,7 +99,7 @@ fn write_step(
 ) -> Result<(), AllocError>
     ensures { OnOk result (out.new.items ≡ out.old.items ++ item_bytes (an_answer step outcome)) }
 {
-    write_number(heap, out, step)?;
+    put_number(heap, out, step)?;
     out.extend_from_slice(b" ")?;
     write_outcome(heap, out, outcome)?;
     out.extend_from_slice(b"\n")
@@ -112,12 +112,12 @@ pub fn write(heap: Global, out: &mut Vec<u8>, printed: Printed) -> Result<(), Al
     match printed {
         Printed::Answered { step, outcome } => write_step(heap, out, step, outcome),
         Printed::Note(text) => write_line(out, text),
-        Printed::Faulty { fault, line } => write_verdict(
+        Printed::Faulty { fault, line } => put_verdict(
             heap,
             out,
             Verdict::Faulty { fault, line },
         ),
-        Printed::NoBoard => write_verdict(heap, out, Verdict::WrongBoard),
+        Printed::NoBoard => put_verdict(heap, out, Verdict::WrongBoard),
         Printed::End => Ok(()),
     }
 }

@@ -10,7 +10,7 @@ use Rattle.sheet.specs.declared.op.Op.TheVariants.{Load, Store, Fence, Evict, Up
 use Rattle.words.specs.Faults.{fault}
 use Rattle.sheet.specs.Format.{hash, a_call, op_word}
 use Rattle.sheet.specs.Lines.{told, InPlace, LineAt, call_line_at}
-use Rattle.sheet.specs.Reading.{then, unless, wanted, keyword_at, word_at, word_end, line_end, operands_at, operands_end, op_operands, op_of, call_of, call_at, note_at, entry_at}
+use Rattle.sheet.specs.Reading.{followed_by, unless, wanted, keyword_at, word_at, word_end, line_end, operands_at, operands_end, op_operands, op_of, call_of, call_at, note_at, entry_at}
 use Rattle.sheet.proofs.Ends.{then_ok, operands_line, line_end_of_word}
 use Rattle.sheet.proofs.Firsts.{first_of_word}
 
@@ -52,31 +52,31 @@ initial_is_no_note Evict = refl
 initial_is_no_note Up = refl
 initial_is_no_note Down = refl
 
-told_call : (op : Op) (r : Result (List ℕ) Fault) → told (then r (λ vs. Ok (line.Call (call_of op vs)))) ≡ then r (λ vs. Ok (a_call (call_of op vs)))
+told_call : (op : Op) (r : Result (List ℕ) Fault) → told (followed_by r (λ vs. Ok (line.Call (call_of op vs)))) ≡ followed_by r (λ vs. Ok (a_call (call_of op vs)))
 told_call op (Ok vs) = refl
 told_call op (Err f) = refl
 
-call_in_place : (s : Bor (List ℕ)) (a : ℕ) (op : Op) (q : Result Unit Fault) (r : Result (List ℕ) Fault) → InPlace s a (then q (λ _. then r (λ vs. Ok (line.Call (call_of op vs)))))
+call_in_place : (s : Bor (List ℕ)) (a : ℕ) (op : Op) (q : Result Unit Fault) (r : Result (List ℕ) Fault) → InPlace s a (followed_by q (λ _. followed_by r (λ vs. Ok (line.Call (call_of op vs)))))
 call_in_place s a op (Ok _) (Ok vs) = tt
 call_in_place s a op (Ok _) (Err f) = tt
 call_in_place s a op (Err f) r = tt
 
 module _ (s : List ℕ) (a : ℕ) (op : Op) where
   abbrev rest : Result Line Fault
-  rest = then (operands_at (op_operands op) s (word_end s a)) (λ vs. Ok (line.Call (call_of op vs)))
+  rest = followed_by (operands_at (op_operands op) s (word_end s a)) (λ vs. Ok (line.Call (call_of op vs)))
 
-  by_test : (b : Bool) → told (then (unless b (fault UnknownWord a)) (λ _. rest)) ≡ call_at s a (cond b (Some op) None)
+  by_test : (b : Bool) → told (followed_by (unless b (fault UnknownWord a)) (λ _. rest)) ≡ call_at s a (cond b (Some op) None)
   by_test true = told_call op (operands_at (op_operands op) s (word_end s a))
   by_test false = refl
 
   call_entry : wanted s a ≡ Ok tt → get_or s a 0 ≡ initial op → told (call_line_at op s a) ≡ entry_at s a
   call_entry here first =
       let w = word_at s a in
-      ap (λ (h : Result Unit Fault). told (then (then h (λ _. unless (bytes_eq (word_at s a) (op_word op)) (fault UnknownWord a))) (λ _. rest))) here
+      ap (λ (h : Result Unit Fault). told (followed_by (followed_by h (λ _. unless (bytes_eq (word_at s a) (op_word op)) (fault UnknownWord a))) (λ _. rest))) here
       ∙ by_test (bytes_eq (word_at s a) (op_word op))
       ∙ sym (ap (call_at s a) (op_by_first (word_at s a) op (⊎_elim inl (λ e. inr (e ∙ first)) (first_of_word s a))))
       ∙ sym (ap (λ b. cond b (note_at s a) (call_at s a (op_of (word_at s a)))) (ap (λ b. eqb b hash) first ∙ initial_is_no_note op))
-      ∙ sym (ap (λ (h : Result Unit Fault). then h (λ _. cond (eqb (get_or s a 0) hash) (note_at s a) (call_at s a (op_of (word_at s a))))) here)
+      ∙ sym (ap (λ (h : Result Unit Fault). followed_by h (λ _. cond (eqb (get_or s a 0) hash) (note_at s a) (call_at s a (op_of (word_at s a))))) here)
 
   call_after : (r : Result Line Fault) (next : ℕ) → r ≡ call_line_at op s a → IfOk r (λ _. next ≡ operands_end (op_operands op) s (word_end s a)) → IfOk r (λ _. next ≡ line_end s a + 1)
   call_after (Err f) next read after = tt

@@ -3,12 +3,12 @@ use Rattle.std.proofs.Common.{◌≡◌, ℕ, suc, ◌+◌, ◌<◌, true, false
 use Rattle.std.proofs.lemmas.List.{drop-drop}
 use Rattle.std.proofs.lemmas.Bool.{cases_Bool, or_parts}
 use Rattle.words.specs.declared.fault.Fault.{Fault}
-use Rattle.sheet.specs.Reading.{then, wanted, line_ends, word_end, line_end, Operand, operand_at, operand_end, operands_at, operands_end}
+use Rattle.sheet.specs.Reading.{followed_by, wanted, line_ends, word_end, line_end, Operand, operand_at, operand_end, operands_at, operands_end}
 use Rattle.words.specs.Lengths.{line_feed, space, ends_word, ends_line, word_length, line_length}
 use Rattle.words.proofs.Scan.{at_stop, goes_on}
 
 -- what went well went well step by step
-pub then_ok : {X Y : Type 0} (r : Result X Fault) (next : X → Result Y Fault) (y : Y) → then r next ≡ Ok y → (x : X) × (r ≡ Ok x) × (next x ≡ Ok y)
+pub then_ok : {X Y : Type 0} (r : Result X Fault) (next : X → Result Y Fault) (y : Y) → followed_by r next ≡ Ok y → (x : X) × (r ≡ Ok x) × (next x ≡ Ok y)
 then_ok (Ok x) next y e = (x, refl, e)
 then_ok (Err f) next y e = let z : ◌≡◌ {A = ℕ} 0 1 = cc in absurd (omega arith)
 

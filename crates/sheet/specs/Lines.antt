@@ -7,7 +7,7 @@ use Rattle.sheet.specs.declared.line.Line.TheVariants.{Call, Note}
 use Rattle.sheet.specs.declared.op.Op.{Op}
 use Rattle.sheet.specs.Format.{Entry, a_call, a_note, op_word}
 use Rattle.sheet.specs.Places.{Part}
-use Rattle.sheet.specs.Reading.{then, keyword_at, word_end, operands_at, op_operands, call_of, entry_at, next_at, line_end}
+use Rattle.sheet.specs.Reading.{followed_by, keyword_at, word_end, operands_at, op_operands, call_of, entry_at, next_at, line_end}
 use Rattle.words.specs.Lengths.{line_length}
 
 -- the entry that a line is
@@ -33,7 +33,7 @@ pub record LineAt (s : Bor (List ℕ)) (a : ℕ) (r : Result Line Fault) (next :
 
 -- the line of this call, which begins at place a
 abbrev pub call_line_at : Op → List ℕ → ℕ → Result Line Fault
-call_line_at op s a = then (keyword_at (op_word op) s a) (λ _. then (operands_at (op_operands op) s (word_end s a)) (λ vs. Ok (Call (call_of op vs))))
+call_line_at op s a = followed_by (keyword_at (op_word op) s a) (λ _. followed_by (operands_at (op_operands op) s (word_end s a)) (λ vs. Ok (Call (call_of op vs))))
 
 -- r is the next line of the sheet s from place a on, where there is one, and the reading goes on at place next:
 -- after a fault, and at the end of the sheet, where it was

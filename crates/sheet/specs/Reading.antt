@@ -20,9 +20,9 @@ use Rattle.words.specs.Lengths.{line_feed, word_length, line_length}
 use Rattle.words.specs.Numbers.{number_of}
 
 -- one answer after another: a fault ends the reading
-abbrev pub then : {X Y : Type 0} → Result X Fault → (X → Result Y Fault) → Result Y Fault
-then (Ok x) next = next x
-then (Err f) next = Err f
+abbrev pub followed_by : {X Y : Type 0} → Result X Fault → (X → Result Y Fault) → Result Y Fault
+followed_by (Ok x) next = next x
+followed_by (Err f) next = Err f
 
 -- a fault, unless the test is true
 abbrev pub unless : Bool → Fault → Result Unit Fault
@@ -41,7 +41,7 @@ wanted s a = cond (nat_le (length s) a) (Err (fault NoLineFeed (length s))) (con
 
 -- this word is wanted at place a
 abbrev pub keyword_at : List ℕ → List ℕ → ℕ → Result Unit Fault
-keyword_at name s a = then (wanted s a) (λ _. unless (bytes_eq (word_at s a) name) (fault UnknownWord a))
+keyword_at name s a = followed_by (wanted s a) (λ _. unless (bytes_eq (word_at s a) name) (fault UnknownWord a))
 
 -- the end of the line is wanted at place a
 abbrev pub line_ends : List ℕ → ℕ → Result Unit Fault
@@ -74,15 +74,15 @@ known kind place None = Err (fault kind place)
 
 -- the operand after the word that ends at place a: past one space
 abbrev pub operand_at : Operand → List ℕ → ℕ → Result ℕ Fault
-operand_at o s a = then (wanted s a) (λ _. then (wanted s (a + 1)) (λ _. known (not_an o) (a + 1) (operand_of o (word_at s (a + 1)))))
+operand_at o s a = followed_by (wanted s a) (λ _. followed_by (wanted s (a + 1)) (λ _. known (not_an o) (a + 1) (operand_of o (word_at s (a + 1)))))
 
 abbrev pub operand_end : List ℕ → ℕ → ℕ
 operand_end s a = word_end s (a + 1)
 
 -- the operands after the word that ends at place a, up to the end of the line
 abbrev pub operands_at : List Operand → List ℕ → ℕ → Result (List ℕ) Fault
-operands_at [] s a = then (line_ends s a) (λ _. Ok [])
-operands_at (o ∷ os) s a = then (operand_at o s a) (λ v. then (operands_at os s (operand_end s a)) (λ vs. Ok (v ∷ vs)))
+operands_at [] s a = followed_by (line_ends s a) (λ _. Ok [])
+operands_at (o ∷ os) s a = followed_by (operand_at o s a) (λ v. followed_by (operands_at os s (operand_end s a)) (λ vs. Ok (v ∷ vs)))
 
 -- where the next line begins
 abbrev pub operands_end : List Operand → List ℕ → ℕ → ℕ
@@ -117,7 +117,7 @@ op_of w =
 
 -- the call whose first word, at place a, names op
 abbrev pub call_at : List ℕ → ℕ → Option Op → Result Entry Fault
-call_at s a (Some op) = then (operands_at (op_operands op) s (word_end s a)) (λ vs. Ok (a_call (call_of op vs)))
+call_at s a (Some op) = followed_by (operands_at (op_operands op) s (word_end s a)) (λ vs. Ok (a_call (call_of op vs)))
 call_at s a None = Err (fault UnknownWord a)
 
 -- the rest of the line from place a on, and where it ends
@@ -129,25 +129,25 @@ line_end s a = a + line_length (drop a s)
 
 -- the note that begins at place a
 abbrev pub note_at : List ℕ → ℕ → Result Entry Fault
-note_at s a = then (line_ends s (line_end s a)) (λ _. Ok (a_note (line_at s a)))
+note_at s a = followed_by (line_ends s (line_end s a)) (λ _. Ok (a_note (line_at s a)))
 
 -- the entry of the line that begins at place a
 abbrev pub entry_at : List ℕ → ℕ → Result Entry Fault
-entry_at s a = then (wanted s a) (λ _. cond (slice_index s a == hash) (note_at s a) (call_at s a (op_of (word_at s a))))
+entry_at s a = followed_by (wanted s a) (λ _. cond (slice_index s a == hash) (note_at s a) (call_at s a (op_of (word_at s a))))
 
 -- the entry at place a, or none at the end of the sheet
 abbrev pub next_at : List ℕ → ℕ → Result (Option Entry) Fault
-next_at s a = cond (nat_le (length s) a) (Ok None) (then (entry_at s a) (λ e. Ok (Some e)))
+next_at s a = cond (nat_le (length s) a) (Ok None) (followed_by (entry_at s a) (λ e. Ok (Some e)))
 
 -- an entry and those after it
 abbrev pub and_then : Option Entry → Result (List Entry) Fault → Result (List Entry) Fault
 and_then None rest = Ok []
-and_then (Some e) rest = then rest (λ es. Ok (e ∷ es))
+and_then (Some e) rest = followed_by rest (λ es. Ok (e ∷ es))
 
 -- the entries of the lines from place a on, at most k of them
 abbrev pub entries_from : ℕ → List ℕ → ℕ → Result (List Entry) Fault
 entries_from zero s a = Ok []
-entries_from (suc k) s a = then (next_at s a) (λ next. and_then next (entries_from k s (line_end s a + 1)))
+entries_from (suc k) s a = followed_by (next_at s a) (λ next. and_then next (entries_from k s (line_end s a + 1)))
 
 -- the board that the values of its operands make
 abbrev pub fabric_named : ℕ → FabricName
@@ -161,7 +161,7 @@ board_of vs = record { shims = slice_index vs 0; lines = slice_index vs 1; fabri
 
 -- the board line, which begins at place a; where nothing stands there it is missing
 abbrev pub board_line_at : List ℕ → ℕ → Result Board Fault
-board_line_at s a = then (keyword_at board_word s a) (λ _. then (operands_at board_operands s (word_end s a)) (λ vs. Ok (board_of vs)))
+board_line_at s a = followed_by (keyword_at board_word s a) (λ _. followed_by (operands_at board_operands s (word_end s a)) (λ vs. Ok (board_of vs)))
 
 abbrev pub board_at : List ℕ → ℕ → Result Board Fault
 board_at s a = cond (nat_le (length s) a) (Err (fault WordCount (length s))) (board_line_at s a)

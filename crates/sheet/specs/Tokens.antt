@@ -6,7 +6,7 @@ use Rattle.sheet.specs.declared.token.Token.{Token}
 use Rattle.sheet.specs.declared.token.Token.TheVariants.{Keyword, Number, Note}
 use Rattle.sheet.specs.Format.{hash}
 use Rattle.sheet.specs.Places.{Part}
-use Rattle.sheet.specs.Reading.{then, wanted, word_at, word_end, line_end}
+use Rattle.sheet.specs.Reading.{followed_by, wanted, word_at, word_end, line_end}
 use Rattle.words.specs.Lengths.{word_length, line_length}
 use Rattle.words.specs.Numbers.{number_of}
 
@@ -28,4 +28,4 @@ token_end s a = cond (slice_index s a == hash) (line_end s a) (word_end s a)
 -- r is the token after the word that ends at place a: one space parts the two
 abbrev pub NextToken : Bor (List ℕ) → ℕ → Result Token Fault → Type 0
 NextToken s a (Ok token) = (wanted s.now a ≡ Ok tt) × TokenAt s (a + 1) (Ok token)
-NextToken s a (Err f) = then (wanted s.now a) (λ _. wanted s.now (a + 1)) ≡ Err f
+NextToken s a (Err f) = followed_by (wanted s.now a) (λ _. wanted s.now (a + 1)) ≡ Err f

@@ -1,4 +1,6 @@
 // Run sheets: what a sheet holds, and which byte is wrong where it is not well formed.
+#![tactic(auto)]
+
 mod line;
 mod names;
 mod op;

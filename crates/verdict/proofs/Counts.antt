@@ -7,12 +7,12 @@ use Rattle.sheet.specs.declared.line.Line.{Line}
 use Rattle.sheet.specs.declared.line.Line.TheVariants as line
 use Rattle.sheet.specs.Format.{Entry}
 use Rattle.sheet.specs.Lines.{NextLine, entry_of, next_told, next_place}
-use Rattle.sheet.specs.Reading.{then, next_at, entry_at, and_then, entries_from, line_end}
+use Rattle.sheet.specs.Reading.{followed_by, next_at, entry_at, and_then, entries_from, line_end}
 use Rattle.verdict.specs.Verdicts.{calls_in}
 
 -- the calls from place a on, of at most k lines, after those that are counted
 abbrev pub calls_from : ℕ → List ℕ → ℕ → ℕ → Result ℕ Fault
-calls_from k s a calls = then (entries_from k s a) (λ es. Ok (calls + calls_in es))
+calls_from k s a calls = followed_by (entries_from k s a) (λ es. Ok (calls + calls_in es))
 
 -- what is left to count at place a gives what was to be counted
 pub record Counting (s : List ℕ) (whole : Result ℕ Fault) (a calls : ℕ) : Type 0 where
@@ -20,21 +20,21 @@ pub record Counting (s : List ℕ) (whole : Result ℕ Fault) (a calls : ℕ) : 
   pub enough : length s ≤ lines + a
   pub same : whole ≡ calls_from lines s a calls
 
-pub counting_starts : (s : List ℕ) (a : ℕ) → Counting s (then (entries_from (length s) s a) (λ es. Ok (calls_in es))) a 0
+pub counting_starts : (s : List ℕ) (a : ℕ) → Counting s (followed_by (entries_from (length s) s a) (λ es. Ok (calls_in es))) a 0
 counting_starts s a = record { lines = length s; enough = omega arith; same = by_entries (entries_from (length s) s a) }
   where
-    by_entries : (r : Result (List Entry) Fault) → then r (λ es. Ok (calls_in es)) ≡ then r (λ es. Ok (0 + calls_in es))
+    by_entries : (r : Result (List Entry) Fault) → followed_by r (λ es. Ok (calls_in es)) ≡ followed_by r (λ es. Ok (0 + calls_in es))
     by_entries (Ok es) = ap (λ n. Ok n) (omega arith)
     by_entries (Err f) = refl
 
 -- beyond the end there is no line
 at_end : (s : List ℕ) (a : ℕ) → length s ≤ a → next_at s a ≡ Ok None
-at_end s a h = ap (λ t. cond t (Ok None) (then (entry_at s a) (λ e. Ok (Some e)))) (le-leb (length s) a h)
+at_end s a h = ap (λ t. cond t (Ok None) (followed_by (entry_at s a) (λ e. Ok (Some e)))) (le-leb (length s) a h)
 
 -- one step, where the lines do not run out
 module _ (s : List ℕ) (a calls : ℕ) (r : Result (Option Entry) Fault) (read : r ≡ next_at s a) where
-  step : (k : ℕ) → calls_from (suc k) s a calls ≡ then (then r (λ next. and_then next (entries_from k s (line_end s a + 1)))) (λ es. Ok (calls + calls_in es))
-  step k = ap (λ q. then (then q (λ next. and_then next (entries_from k s (line_end s a + 1)))) (λ es. Ok (calls + calls_in es))) (sym read)
+  step : (k : ℕ) → calls_from (suc k) s a calls ≡ followed_by (followed_by r (λ next. and_then next (entries_from k s (line_end s a + 1)))) (λ es. Ok (calls + calls_in es))
+  step k = ap (λ q. followed_by (followed_by q (λ next. and_then next (entries_from k s (line_end s a + 1)))) (λ es. Ok (calls + calls_in es))) (sym read)
 
   some_lines : (k : ℕ) → length s ≤ k + a → (r ≡ Ok None → ⊥) → 0 < k
   some_lines zero h ne = absurd (ne (read ∙ at_end s a (omega arith)))
@@ -58,7 +58,7 @@ module _ (s : List ℕ) (whole : Result ℕ Fault) (a calls : ℕ) (c : Counting
   pub counting_goes_on : (e : Entry) (calls' : ℕ) → next_at s a ≡ Ok (Some e) → ((es : List Entry) → calls + calls_in (e ∷ es) ≡ calls' + calls_in es) → Counting s whole (line_end s a + 1) calls'
   counting_goes_on e calls' read more = by_lines c.lines c.enough c.same
     where
-      by_rest : (q : Result (List Entry) Fault) → then (then q (λ es. Ok (e ∷ es))) (λ es. Ok (calls + calls_in es)) ≡ then q (λ es. Ok (calls' + calls_in es))
+      by_rest : (q : Result (List Entry) Fault) → followed_by (followed_by q (λ es. Ok (e ∷ es))) (λ es. Ok (calls + calls_in es)) ≡ followed_by q (λ es. Ok (calls' + calls_in es))
       by_rest (Ok es) = ap (λ n. Ok n) (more es)
       by_rest (Err f) = refl
 

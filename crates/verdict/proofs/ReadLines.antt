@@ -9,7 +9,7 @@ use Rattle.words.specs.declared.fault.Fault.{Fault}
 use Rattle.sheet.specs.declared.op.Op.{Op}
 use Rattle.sheet.specs.declared.op.Op.TheVariants.{Load, Store, Fence, Evict, Up, Down}
 use Rattle.sheet.specs.Format.{hash, words_line, Entry, a_call, a_note, entry_line, WellFormed, op_word}
-use Rattle.sheet.specs.Reading.{then, wanted, line_ends, word_at, word_end, line_at, line_end, Operand, operands_at, operands_end, op_operands, op_of, call_of, call_at, note_at, entry_at, next_at, and_then, entries_from}
+use Rattle.sheet.specs.Reading.{followed_by, wanted, line_ends, word_at, word_end, line_at, line_end, Operand, operands_at, operands_end, op_operands, op_of, call_of, call_at, note_at, entry_at, next_at, and_then, entries_from}
 use Rattle.sheet.proofs.Ends.{then_ok, wanted_within, operands_line, line_end_of_word}
 use Rattle.words.specs.Lengths.{before, word_length, line_length}
 use Rattle.verdict.proofs.ReadWords.{Stands, stands_on, stands_as, taken_stands, byte_stands, word_stops, feed_stands, operands_read}
@@ -37,7 +37,7 @@ module _ {X : Type 0} (line : X → List ℕ) (Good : X → Type 0) where
   Makes w os make vs = (words_line (w ∷ spelled_all os vs) ≡ line (make vs)) × Good (make vs)
 
   pub line_read : (w : List ℕ) (os : List Operand) (make : List ℕ → X) → Throughout os (Makes w os make)
-      → (s : List ℕ) (a : ℕ) (x : X) → word_at s a ≡ w → then (operands_at os s (word_end s a)) (λ vs. Ok (make vs)) ≡ Ok x → LineRead s a x
+      → (s : List ℕ) (a : ℕ) (x : X) → word_at s a ≡ w → followed_by (operands_at os s (word_end s a)) (λ vs. Ok (make vs)) ≡ Ok x → LineRead s a x
   line_read w os make all s a x first read =
       let one = then_ok (operands_at os s (word_end s a)) (λ vs. Ok (make vs)) x read in
       let is : make one.0 ≡ x = cc one.2 in
@@ -108,7 +108,7 @@ none_read s a es h is = subst (EntriesRead s a) is (drop_all a s h, tt)
 
 -- one more entry before those that r read
 module _ (s : List ℕ) (a : ℕ) (es : List Entry) (r : Result (List Entry) Fault) (rest : (later : List Entry) → r ≡ Ok later → EntriesRead s (line_end s a + 1) later) where
-  by_entry : (q : Result Entry Fault) → entry_at s a ≡ q → then (then q (λ e. Ok (Some e))) (λ next. and_then next r) ≡ Ok es → EntriesRead s a es
+  by_entry : (q : Result Entry Fault) → entry_at s a ≡ q → followed_by (followed_by q (λ e. Ok (Some e))) (λ next. and_then next r) ≡ Ok es → EntriesRead s a es
   by_entry (Err f) here read = let z : ◌≡◌ {A = ℕ} 0 1 = cc in absurd (omega arith)
   by_entry (Ok e) here read =
       let one = then_ok r (λ later. Ok (e ∷ later)) es read in
@@ -117,10 +117,10 @@ module _ (s : List ℕ) (a : ℕ) (es : List Entry) (r : Result (List Entry) Fau
       let later = rest one.0 one.1 in
       subst (EntriesRead s a) is (entry.0.bytes ∙ ap (λ t. entry_line e ++ t) later.0, (entry.1, later.1))
 
-  next_read : then (next_at s a) (λ next. and_then next r) ≡ Ok es → EntriesRead s a es
+  next_read : followed_by (next_at s a) (λ next. and_then next r) ≡ Ok es → EntriesRead s a es
   next_read read = by_end (leb (length s) a) refl read
     where
-      by_end : (t : Bool) → leb (length s) a ≡ t → then (cond t (Ok None) (then (entry_at s a) (λ e. Ok (Some e)))) (λ next. and_then next r) ≡ Ok es → EntriesRead s a es
+      by_end : (t : Bool) → leb (length s) a ≡ t → followed_by (cond t (Ok None) (followed_by (entry_at s a) (λ e. Ok (Some e)))) (λ next. and_then next r) ≡ Ok es → EntriesRead s a es
       by_end true end read = none_read s a es (leb-true (length s) a end) cc
       by_end false end read = by_entry (entry_at s a) refl read
 

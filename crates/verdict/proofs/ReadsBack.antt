@@ -14,7 +14,7 @@ use Rattle.sheet.specs.declared.op.Op.{Op}
 use Rattle.sheet.specs.declared.op.Op.TheVariants.{Load, Store, Fence, Evict, Up, Down}
 use Rattle.words.specs.Faults.{fault}
 use Rattle.sheet.specs.Format.{header, size_limit, hash, fabric_words, fabric_number, board_word, board_words, after_word, words_line, Entry, a_call, a_note, entry_line, WellFormed, BoardFits, op_word}
-use Rattle.sheet.specs.Reading.{then, unless, wanted, word_at, word_end, Operand, operand_of, operand_at, operand_end, operands_at, known, not_an, op_operands, call_of, op_of, call_at, note_at, line_at, line_end, entry_at, and_then, entries_from, fabric_named, board_operands, board_of, board_line_at, board_at, board_end, opened, wrong_board, entries_of, with_board}
+use Rattle.sheet.specs.Reading.{followed_by, unless, wanted, word_at, word_end, Operand, operand_of, operand_at, operand_end, operands_at, known, not_an, op_operands, call_of, op_of, call_at, note_at, line_at, line_end, entry_at, and_then, entries_from, fabric_named, board_operands, board_of, board_line_at, board_at, board_end, opened, wrong_board, entries_of, with_board}
 use Rattle.rules.specs.Sizes.{is_size}
 use Rattle.verdict.specs.Laws.{ReadsBack}
 use Rattle.sheet.proofs.Calls.{initial}
@@ -79,8 +79,8 @@ module _ (o : Operand) (w : List ℕ) (v : ℕ) (reads : operand_of o w ≡ Some
 
     by_byte : (operand_at o s a ≡ Ok v) × (drop (operand_end s a) s ≡ after_word ws ++ t)
     by_byte = (
-      ap (λ (r : Result Unit Fault). then r (λ _. then (wanted s (a + 1)) (λ _. known (not_an o) (a + 1) (operand_of o (word_at s (a + 1)))))) (places.is_wanted s a space ((w ++ after_word ws) ++ t) e refl)
-          ∙ ap (λ (r : Result Unit Fault). then r (λ _. known (not_an o) (a + 1) (operand_of o (word_at s (a + 1))))) (word_wanted s (a + 1) x xs ws t next free')
+      ap (λ (r : Result Unit Fault). followed_by r (λ _. followed_by (wanted s (a + 1)) (λ _. known (not_an o) (a + 1) (operand_of o (word_at s (a + 1)))))) (places.is_wanted s a space ((w ++ after_word ws) ++ t) e refl)
+          ∙ ap (λ (r : Result Unit Fault). followed_by r (λ _. known (not_an o) (a + 1) (operand_of o (word_at s (a + 1))))) (word_wanted s (a + 1) x xs ws t next free')
           ∙ ap (λ u. known (not_an o) (a + 1) (operand_of o u)) (word_read s (a + 1) x xs ws t next free' ∙ sym is)
           ∙ ap (known (not_an o) (a + 1)) reads,
       word_after s (a + 1) x xs ws t next free',
@@ -90,13 +90,13 @@ module _ (o : Operand) (w : List ℕ) (v : ℕ) (reads : operand_of o w ≡ Some
   operand_read = let b = some_byte o w v reads in by_byte b.0 b.1.0 b.1.1
 
 operands_read : (os : List Operand) (vs s : List ℕ) (a : ℕ) (t : List ℕ) → Fits os vs → drop a s ≡ after_word (spelled_all os vs) ++ t → operands_at os s a ≡ Ok vs
-operands_read [] [] s a t fits e = ap (λ (r : Result Unit Fault). then r (λ _. Ok [])) (places.line_ends_here s a line_feed t e refl)
+operands_read [] [] s a t fits e = ap (λ (r : Result Unit Fault). followed_by r (λ _. Ok [])) (places.line_ends_here s a line_feed t e refl)
 operands_read [] (v ∷ vs) s a t fits e = absurd fits
 operands_read (o ∷ os) [] s a t fits e = absurd fits
 operands_read (o ∷ os) (v ∷ vs) s a t fits e =
     let one = operand_read o (spelled o v) v (spelled_back o v fits.0) (spelled_free o v fits.0) s a (spelled_all os vs) t e in
-    ap (λ (r : Result ℕ Fault). then r (λ u. then (operands_at os s (operand_end s a)) (λ us. Ok (u ∷ us)))) one.0
-    ∙ ap (λ (r : Result (List ℕ) Fault). then r (λ us. Ok (v ∷ us))) (operands_read os vs s (operand_end s a) t fits.1 one.1)
+    ap (λ (r : Result ℕ Fault). followed_by r (λ u. followed_by (operands_at os s (operand_end s a)) (λ us. Ok (u ∷ us)))) one.0
+    ∙ ap (λ (r : Result (List ℕ) Fault). followed_by r (λ us. Ok (v ∷ us))) (operands_read os vs s (operand_end s a) t fits.1 one.1)
 
 -- how long a line of words is
 free_line : (w : List ℕ) → Free ends_word w → Free ends_line w
@@ -146,10 +146,10 @@ module _ (op : Op) (vs s : List ℕ) (a : ℕ) (t : List ℕ) (fits : Fits (op_o
 
   call_by_name : Name op → drop a s ≡ words_line ((initial op ∷ others op) ∷ ws) ++ t → EntryAt s a (a_call (call_of op vs)) (words_line ((initial op ∷ others op) ∷ ws))
   call_by_name n e = (
-    ap (λ (r : Result Unit Fault). then r (λ _. cond (eqb (get_or s a 0) hash) (note_at s a) (call_at s a (op_of (word_at s a))))) (word_wanted s a (initial op) (others op) ws t e n.free)
+    ap (λ (r : Result Unit Fault). followed_by r (λ _. cond (eqb (get_or s a 0) hash) (note_at s a) (call_at s a (op_of (word_at s a))))) (word_wanted s a (initial op) (others op) ws t e n.free)
         ∙ ap (λ (b : Bool). cond b (note_at s a) (call_at s a (op_of (word_at s a)))) (ap (λ b. eqb b hash) (word_first s a (initial op) (others op) ws t e n.free) ∙ n.no_note)
         ∙ ap (call_at s a) (ap op_of (word_read s a (initial op) (others op) ws t e n.free) ∙ n.named)
-        ∙ ap (λ (r : Result (List ℕ) Fault). then r (λ us. Ok (a_call (call_of op us)))) (operands_read (op_operands op) vs s (word_end s a) t fits (word_after s a (initial op) (others op) ws t e n.free)),
+        ∙ ap (λ (r : Result (List ℕ) Fault). followed_by r (λ us. Ok (a_call (call_of op us)))) (operands_read (op_operands op) vs s (word_end s a) t fits (word_after s a (initial op) (others op) ws t e n.free)),
     omega (arith, ap line_length e, words_length (initial op ∷ others op) ws t n.free (all_free (op_operands op) vs fits)),
   )
 
@@ -180,9 +180,9 @@ module _ (s : List ℕ) (a : ℕ) (b : ℕ) (bs t : List ℕ) (mark : b ≡ hash
 
   note_read : entry_at s a ≡ Ok (a_note (b ∷ bs))
   note_read =
-      ap (λ (r : Result Unit Fault). then r (λ _. cond (eqb (get_or s a 0) hash) (note_at s a) (call_at s a (op_of (word_at s a))))) (places.is_wanted s a b (bs ++ line_feed ∷ t) e free.0)
+      ap (λ (r : Result Unit Fault). followed_by r (λ _. cond (eqb (get_or s a 0) hash) (note_at s a) (call_at s a (op_of (word_at s a))))) (places.is_wanted s a b (bs ++ line_feed ∷ t) e free.0)
       ∙ ap (λ x. cond (eqb x hash) (note_at s a) (call_at s a (op_of (word_at s a)))) (places.byte_is s a b (bs ++ line_feed ∷ t) e ∙ mark)
-      ∙ ap (λ (r : Result Unit Fault). then r (λ _. Ok (a_note (line_at s a)))) (places.line_ends_here s (line_end s a) line_feed t note_end refl)
+      ∙ ap (λ (r : Result Unit Fault). followed_by r (λ _. Ok (a_note (line_at s a)))) (places.line_ends_here s (line_end s a) line_feed t note_end refl)
       ∙ ap (λ u. Ok (a_note u)) note_text
 
 entry_read : (e : Entry) (s : List ℕ) (a : ℕ) (t : List ℕ) → WellFormed e → drop a s ≡ entry_line e ++ t → EntryAt s a e (entry_line e)
@@ -202,13 +202,13 @@ entry_read (a_note (b ∷ bs)) s a t (mark, long) e =
 module _ (s : List ℕ) (a : ℕ) where
   none_left : (k : ℕ) → length s ≤ a → entries_from k s a ≡ Ok []
   none_left zero h = refl
-  none_left (suc k) h = ap (λ (b : Bool). then (cond b (Ok None) (then (entry_at s a) (λ e. Ok (Some e)))) (λ next. and_then next (entries_from k s (line_end s a + 1)))) (le-leb (length s) a h)
+  none_left (suc k) h = ap (λ (b : Bool). followed_by (cond b (Ok None) (followed_by (entry_at s a) (λ e. Ok (Some e)))) (λ next. and_then next (entries_from k s (line_end s a + 1)))) (le-leb (length s) a h)
 
   one_more : (k : ℕ) (e : Entry) (es : List Entry) → a < length s → entry_at s a ≡ Ok e → entries_from k s (line_end s a + 1) ≡ Ok es → entries_from (suc k) s a ≡ Ok (e ∷ es)
   one_more k e es h reads rest =
-      ap (λ (b : Bool). then (cond b (Ok None) (then (entry_at s a) (λ x. Ok (Some x)))) (λ next. and_then next (entries_from k s (line_end s a + 1)))) (lt-leb (length s) a h)
-      ∙ ap (λ (r : Result Entry Fault). then (then r (λ x. Ok (Some x))) (λ next. and_then next (entries_from k s (line_end s a + 1)))) reads
-      ∙ ap (λ (r : Result (List Entry) Fault). then r (λ xs. Ok (e ∷ xs))) rest
+      ap (λ (b : Bool). followed_by (cond b (Ok None) (followed_by (entry_at s a) (λ x. Ok (Some x)))) (λ next. and_then next (entries_from k s (line_end s a + 1)))) (lt-leb (length s) a h)
+      ∙ ap (λ (r : Result Entry Fault). followed_by (followed_by r (λ x. Ok (Some x))) (λ next. and_then next (entries_from k s (line_end s a + 1)))) reads
+      ∙ ap (λ (r : Result (List Entry) Fault). followed_by r (λ xs. Ok (e ∷ xs))) rest
 
 entries_read : (es : List Entry) (k : ℕ) (s : List ℕ) (a : ℕ) → All WellFormed es → length s ≤ k + a → drop a s ≡ flat_map entry_line es → entries_from k s a ≡ Ok es
 entries_read [] k s a well enough d = none_left s a k (omega (arith, ap length d, length-drop a s))
@@ -248,9 +248,9 @@ module _ (s : List ℕ) (a : ℕ) (b : Board) (t : List ℕ) (fit : BoardFits b)
   board_read : board_at s a ≡ Ok b
   board_read =
       ap (λ (u : Bool). cond u (Err (fault WordCount (length s))) (board_line_at s a)) (lt-leb (length s) a (wanted_within s a (word_wanted s a (get_or board_word 0 0) (drop 1 board_word) bs t e free)).0)
-      ∙ ap (λ (r : Result Unit Fault). then (then r (λ _. unless (bytes_eq (word_at s a) board_word) (fault UnknownWord a))) (λ _. then (operands_at board_operands s (word_end s a)) (λ vs. Ok (board_of vs)))) (word_wanted s a (get_or board_word 0 0) (drop 1 board_word) bs t e free)
-      ∙ ap (λ w. then (unless (bytes_eq w board_word) (fault UnknownWord a)) (λ _. then (operands_at board_operands s (word_end s a)) (λ vs. Ok (board_of vs)))) (word_read s a (get_or board_word 0 0) (drop 1 board_word) bs t e free)
-      ∙ ap (λ (r : Result (List ℕ) Fault). then r (λ vs. Ok (board_of vs))) (operands_read board_operands (values b) s (word_end s a) t fits (word_after s a (get_or board_word 0 0) (drop 1 board_word) bs t e free))
+      ∙ ap (λ (r : Result Unit Fault). followed_by (followed_by r (λ _. unless (bytes_eq (word_at s a) board_word) (fault UnknownWord a))) (λ _. followed_by (operands_at board_operands s (word_end s a)) (λ vs. Ok (board_of vs)))) (word_wanted s a (get_or board_word 0 0) (drop 1 board_word) bs t e free)
+      ∙ ap (λ w. followed_by (unless (bytes_eq w board_word) (fault UnknownWord a)) (λ _. followed_by (operands_at board_operands s (word_end s a)) (λ vs. Ok (board_of vs)))) (word_read s a (get_or board_word 0 0) (drop 1 board_word) bs t e free)
+      ∙ ap (λ (r : Result (List ℕ) Fault). followed_by r (λ vs. Ok (board_of vs))) (operands_read board_operands (values b) s (word_end s a) t fits (word_after s a (get_or board_word 0 0) (drop 1 board_word) bs t e free))
       ∙ ap (λ (f : FabricName). Ok (record { shims = b.shims; lines = b.lines; fabric = f })) (fabric_back b.fabric)
 
   board_ends : line_end s a + 1 ≡ a + length (words_line (board_words b))

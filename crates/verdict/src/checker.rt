@@ -1,5 +1,5 @@
 ghost use Rattle.std.specs.Prelude.{◌≡◌, ◌≤◌, length, take, Ok};
-ghost use Rattle.sheet.specs.Reading.{then, entries_from, reading};
+ghost use Rattle.sheet.specs.Reading.{followed_by, entries_from, reading};
 ghost use Rattle.verdict.specs.Laws.{OnlyWritten, ReadsBack};
 ghost use Rattle.verdict.specs.Verdicts.{calls_in, counted, feeds, line_number_at, verdict_of};
 
@@ -38,7 +38,7 @@ pub fn line_number(sheet: &[u8], place: usize) -> usize
 
 // How many calls are left to read.
 fn count_calls(mut reader: Reader) -> Result<usize, Fault>
-    ensures { result ≡ then (entries_from (length reader.entry.sheet.now) reader.entry.sheet.now reader.entry.at) (λ es. Ok (calls_in es)) }
+    ensures { result ≡ followed_by (entries_from (length reader.entry.sheet.now) reader.entry.sheet.now reader.entry.at) (λ es. Ok (calls_in es)) }
 {
     let mut calls = 0;
     while let Some(line) = reader.next_line()? {

@@ -1,8 +1,10 @@
 // Whether a sheet is well formed, and if not, what is wrong where.
+#![tactic(auto)]
+
 mod checker;
 mod printer;
 mod verdict;
 
 pub use checker::{check, line_number};
-pub use printer::{report, write_number, write_verdict};
+pub use printer::{report, put_number, put_verdict};
 pub use verdict::Verdict;

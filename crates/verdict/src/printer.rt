@@ -6,7 +6,7 @@ use crate::verdict::Verdict;
 use std::alloc::{AllocError, Global};
 
 // Writes a number in decimal.
-pub fn write_number(heap: Global, out: &mut Vec<u8>, n: usize) -> Result<(), AllocError>
+pub fn put_number(heap: Global, out: &mut Vec<u8>, n: usize) -> Result<(), AllocError>
     ensures { OnOk result (out.new.items ≡ out.old.items ++ decimal n) }
 {
     let text = n.to_string(heap)?;
@@ -14,23 +14,23 @@ pub fn write_number(heap: Global, out: &mut Vec<u8>, n: usize) -> Result<(), All
 }
 
 // Writes a verdict as a line.
-pub fn write_verdict(heap: Global, out: &mut Vec<u8>, verdict: Verdict) -> Result<(), AllocError>
+pub fn put_verdict(heap: Global, out: &mut Vec<u8>, verdict: Verdict) -> Result<(), AllocError>
     ensures { OnOk result (out.new.items ≡ out.old.items ++ verdict_bytes verdict) }
 {
     match verdict {
         Verdict::Good { calls } => {
             out.extend_from_slice(b"ok ")?;
-            write_number(heap, out, calls)?;
+            put_number(heap, out, calls)?;
             out.extend_from_slice(b"\n")
         }
         Verdict::WrongBoard => out.extend_from_slice(b"no 1\n"),
         Verdict::Faulty { fault, line } => {
             out.extend_from_slice(b"fault ")?;
-            write_number(heap, out, usize::from(fault.kind.number()))?;
+            put_number(heap, out, usize::from(fault.kind.number()))?;
             out.extend_from_slice(b" at ")?;
-            write_number(heap, out, fault.place)?;
+            put_number(heap, out, fault.place)?;
             out.extend_from_slice(b" line ")?;
-            write_number(heap, out, line)?;
+            put_number(heap, out, line)?;
             out.extend_from_slice(b"\n")
         }
     }
@@ -41,6 +41,6 @@ pub fn report(heap: Global, sheet: &[u8]) -> Result<Vec<u8>, AllocError>
     ensures { IfOk result (λ v. v.items ≡ verdict_bytes (verdict_of sheet.now)) }
 {
     let mut out = Vec::new(heap);
-    write_verdict(heap, &mut out, check(sheet))?;
+    put_verdict(heap, &mut out, check(sheet))?;
     Ok(out)
 }

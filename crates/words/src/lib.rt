@@ -1,4 +1,6 @@
 // Run sheets as bytes: where a word and a line end, the number that a word writes, and what can be wrong at a place.
+#![tactic(auto)]
+
 mod fault;
 mod text;
 

@@ -1,5 +1,5 @@
 ghost use Rattle.std.specs.Prelude.{◌≡◌, is_ok, if◌then◌else◌, Ok, OnOk};
-ghost use Rattle.sheet.specs.Reading.{then, word_end, operands_at, operands_end, board_operands, board_of, board_at, board_end, opened};
+ghost use Rattle.sheet.specs.Reading.{followed_by, word_end, operands_at, operands_end, board_operands, board_of, board_at, board_end, opened};
 
 use crate::line::Board;
 use crate::reader::Reader;
@@ -21,7 +21,7 @@ impl<'a> Reader<'a> {
 
     // The board whose operands follow the word that ends here.
     fn board_operands(&mut self) -> Result<Board, Fault>
-        ensures value { result ≡ then (operands_at board_operands self.old.sheet.now self.old.at) (λ vs. Ok (board_of vs)) }
+        ensures value { result ≡ followed_by (operands_at board_operands self.old.sheet.now self.old.at) (λ vs. Ok (board_of vs)) }
         ensures after { OnOk result (self.new.at ≡ operands_end board_operands self.old.sheet.now self.old.at) }
         ensures sheet { self.new.sheet ≡ self.old.sheet }
     {

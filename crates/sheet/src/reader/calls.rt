@@ -1,7 +1,7 @@
 ghost use Rattle.std.specs.Prelude.{◌≡◌, Ok, OnOk};
 ghost use Rattle.sheet.specs.declared.line.Line.TheVariants.{Call as Called};
 ghost use Rattle.sheet.specs.Lines.{call_line_at};
-ghost use Rattle.sheet.specs.Reading.{then, word_end, operands_at, operands_end, op_operands, call_of};
+ghost use Rattle.sheet.specs.Reading.{followed_by, word_end, operands_at, operands_end, op_operands, call_of};
 
 use crate::line::Line;
 use crate::op::Op;
@@ -12,7 +12,7 @@ use words::Fault;
 impl<'a> Reader<'a> {
     // The line of this call, whose operands follow the word that ends here.
     fn operands(&mut self, op: Op) -> Result<Line<'a>, Fault>
-        ensures value { result ≡ then (operands_at (op_operands op) self.old.sheet.now self.old.at) (λ vs. Ok (Called (call_of op vs))) }
+        ensures value { result ≡ followed_by (operands_at (op_operands op) self.old.sheet.now self.old.at) (λ vs. Ok (Called (call_of op vs))) }
         ensures after { OnOk result (self.new.at ≡ operands_end (op_operands op) self.old.sheet.now self.old.at) }
         ensures sheet { self.new.sheet ≡ self.old.sheet }
     {

@@ -1,5 +1,5 @@
 ghost use Rattle.std.specs.Prelude.{◌≡◌, ◌+◌, ◌<◌, Ok, OnOk, slice_index};
-ghost use Rattle.sheet.specs.Reading.{then, keyword_at, word_end, a_number, a_strength, a_fabric, operand_at, operand_end, fabric_named};
+ghost use Rattle.sheet.specs.Reading.{followed_by, keyword_at, word_end, a_number, a_strength, a_fabric, operand_at, operand_end, fabric_named};
 ghost use Rattle.sheet.specs.Tokens.{NextToken, token_end};
 
 use crate::line::FabricName;
@@ -89,7 +89,7 @@ impl<'a> Reader<'a> {
 
     // The fabric that is wanted next.
     pub(super) fn fabric(&mut self) -> Result<FabricName, Fault>
-        ensures value { result ≡ then (operand_at a_fabric self.old.sheet.now self.old.at) (λ k. Ok (fabric_named k)) }
+        ensures value { result ≡ followed_by (operand_at a_fabric self.old.sheet.now self.old.at) (λ k. Ok (fabric_named k)) }
         ensures after { OnOk result (self.new.at ≡ operand_end self.old.sheet.now self.old.at) }
         ensures sheet { self.new.sheet ≡ self.old.sheet }
     {

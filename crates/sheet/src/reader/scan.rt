@@ -1,6 +1,6 @@
 ghost use Rattle.std.specs.Prelude.{◌≡◌, ◌+◌, ◌≤◌, length, drop, Ok, OnOk};
 ghost use Rattle.sheet.specs.Places.{Part};
-ghost use Rattle.sheet.specs.Reading.{then, wanted, line_ends, word_end, line_end};
+ghost use Rattle.sheet.specs.Reading.{followed_by, wanted, line_ends, word_end, line_end};
 ghost use Rattle.sheet.specs.Tokens.{TokenAt, token_end};
 ghost use Rattle.words.specs.Lengths.{word_length, line_length};
 
@@ -50,7 +50,7 @@ impl<'a> Reader<'a> {
 
     // The value, where the line ends here.
     pub(super) fn ended<T: Drop>(&mut self, value: T) -> Result<T, Fault>
-        ensures value { result ≡ then (line_ends self.old.sheet.now self.old.at) (λ _. Ok value) }
+        ensures value { result ≡ followed_by (line_ends self.old.sheet.now self.old.at) (λ _. Ok value) }
         ensures after { OnOk result (self.new.at ≡ self.old.at + 1) }
         ensures sheet { self.new.sheet ≡ self.old.sheet }
     {

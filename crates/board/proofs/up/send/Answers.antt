@@ -2,7 +2,7 @@ use Rattle.std.proofs.Common.{◌≡◌, ◌+◌, cond, None, sym, ap, ◌∙◌
 use Rattle.rules.specs.Up.{send_all, sent_by}
 use Rattle.board.proofs.Sends.{send_none, send_more}
 use Rattle.board.proofs.up.send.Goals as goal
-use Rattle.board.proofs.up.send.Goals.{in-Some, in-default}
+use Rattle.board.proofs.up.send.Goals.{in-Some, in_default}
 
 pub loop-shim-preserved : goal.loop-shim-preserved
 loop-shim-preserved g c =
@@ -21,10 +21,10 @@ loop-shim-preserved g c =
                 (v.in-Some.ensures ∙ performs) (model c.loop-shim.fabric) (model v.put.new.self) v.put.result c.loop-shim.invariant.1 v.put.ensures.answer v.put.ensures.after,
             v.put.ensures.lender ∙ c.loop-shim.invariant.2,
           )
-      | in-default v ↦
+      | in_default v ↦
           subst Kept (sym v.fabric-is) (
             c.loop-shim.invariant.0,
-            send_none ω (λ j. sent_by c.args.hub c.args.msg j c.args.kind) φ k (model c.loop-shim.fabric) c.loop-shim.invariant.1 (v.in-default.ensures ∙ performs),
+            send_none ω (λ j. sent_by c.args.hub c.args.msg j c.args.kind) φ k (model c.loop-shim.fabric) c.loop-shim.invariant.1 (v.in_default.ensures ∙ performs),
             c.loop-shim.invariant.2,
           )
     ]

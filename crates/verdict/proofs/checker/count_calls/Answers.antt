@@ -24,11 +24,11 @@ loop-line-preserved c =
     let n = c.next_line in
     let some = c.in_ok-line.was ∙ ap (λ x. Ok x) c.in-Some.is in
     let l = later c.loop-line.reader.sheet _ c.loop-line.reader.at c.loop-line.calls c.loop-line.invariant.2 n.result n.new.self.at n.ensures.line c.in-Some.line some in
-    let counting = after_note c.loop-line.reader.sheet _ c.loop-line.reader.at c.loop-line.calls c.loop-line.invariant.2 n.result n.new.self.at n.ensures.line c.in-Some.line c.in-default-line.field-0 some c.in-default-line.is in
+    let counting = after_note c.loop-line.reader.sheet _ c.loop-line.reader.at c.loop-line.calls c.loop-line.invariant.2 n.result n.new.self.at n.ensures.line c.in-Some.line c.in_default-line.field-0 some c.in_default-line.is in
     (n.ensures.sheet ∙ c.loop-line.invariant.0, omega (arith, l, c.loop-line.invariant.1), moved c.loop-line.reader.sheet n.new.self.sheet _ _ _ n.ensures.sheet counting)
 
 pub returns : goal.returns
 returns c =
     let e = after_end c.loop-line.reader.sheet _ c.loop-line.reader.at c.loop-line.calls c.loop-line.invariant.2 c.next_line.result c.next_line.new.self.at c.next_line.ensures.line
-    (c.in_ok-line.was ∙ ap (λ x. Ok x) c.in-default.is) in
+    (c.in_ok-line.was ∙ ap (λ x. Ok x) c.in_default.is) in
     search rules

@@ -12,14 +12,14 @@ returns-in_err-checked_mul c =
     let s = value_step c.args.word.now c.loop-b.b-index c.loop-b.value c.loop-b-test.true in
     let g = value_ge (c.loop-b.value * 10 + (get_or c.args.word.now c.loop-b.b-index 0 - 48)) (drop (c.loop-b.b-index + 1) c.args.word.now) in
     let big : largest < value_after 0 c.args.word.now = omega (arith, c.in_err-checked_mul.ensures) in
-    c.from-residual.ensures ∙ by_size c.args.word.now big
+    c.from_residual.ensures ∙ by_size c.args.word.now big
 
 pub returns-in_err-value : goal.returns-in_err-value
 returns-in_err-value c =
     let s = value_step c.args.word.now c.loop-b.b-index c.loop-b.value c.loop-b-test.true in
     let g = value_ge (c.loop-b.value * 10 + (get_or c.args.word.now c.loop-b.b-index 0 - 48)) (drop (c.loop-b.b-index + 1) c.args.word.now) in
     let big : largest < value_after 0 c.args.word.now = omega (arith, c.in_err-value.ensures, c.in_ok-checked_mul.ensures, c.from.ensures) in
-    c.from-residual-in_err-value.ensures ∙ by_size c.args.word.now big
+    c.from_residual-in_err-value.ensures ∙ by_size c.args.word.now big
 
 pub loop-b-preserved : goal.loop-b-preserved
 loop-b-preserved c =

@@ -6,8 +6,8 @@ use Rattle.board.proofs.Deliveries.{down_foreign, down_accepted}
 use Rattle.board.proofs.Firsts.{first_is, took}
 use Rattle.board.proofs.board.Board.down.Goals as goal
 
-pub returns-in-default : goal.returns-in-default
-returns-in-default g c =
+pub returns-in_default : goal.returns-in_default
+returns-in_default g c =
     let ω = g.F.Fabric.backing in
     let z = c.args.self.now.size in
     let b = c.args.self.now.state in
@@ -20,7 +20,7 @@ returns-in-default g c =
       size = refl;
       rule =
           ap (λ x. after (Err (Foreign (down_lane s))) b x) c.first.ensures.same
-          ∙ down_foreign ω z b φ s c.in_ok-msg.msg found (omega arith) (omega arith) c.in-default.ensures;
+          ∙ down_foreign ω z b φ s c.in_ok-msg.msg found (omega arith) (omega arith) c.in_default.ensures;
     }
 
 pub returns : goal.returns

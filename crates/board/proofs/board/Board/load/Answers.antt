@@ -5,7 +5,7 @@ use Rattle.board.proofs.board.Board.load.Goals as goal
 
 pub returns-in_err-s : goal.returns-in_err-s
 returns-in_err-s g c =
-    let p = err_from_is_err_and c.from-residual.result c.from-residual.ensures.1 in
+    let p = err_from_is_err_and c.from_residual.result c.from_residual.ensures.1 in
     let a = c.args in
     let b = a.self.now in
     rw (p.1, p.2) (record {

@@ -15,8 +15,8 @@ use Rattle.board.proofs.Rooms.{has_room}
 use Rattle.board.proofs.Sends.{room_after_take}
 use Rattle.board.proofs.board.Board.up.Goals as goal
 
-pub returns-in-default : goal.returns-in-default
-returns-in-default g c =
+pub returns-in_default : goal.returns-in_default
+returns-in_default g c =
     let s = c.args.shim in
     let b = c.args.self.now.state in
     record {
@@ -26,12 +26,12 @@ returns-in-default g c =
       rule =
           ap (λ x. after (Err (Foreign (up_lane s))) b x) c.first.ensures.same
           ∙ up_foreign g.F.Fabric.backing c.args.self.now.size b (g.F.Fabric.model c.args.fabric.now) s c.in_ok-msg.msg c.in_ok-msg.ensures.message
-          c.in-default.ensures;
+          c.in_default.ensures;
     }
 
 pub returns-in_err-room : goal.returns-in_err-room
 returns-in_err-room g c =
-    let p = err_from_is_err_and c.from-residual-in_err-room.result c.from-residual-in_err-room.ensures.1 in
+    let p = err_from_is_err_and c.from_residual-in_err-room.result c.from_residual-in_err-room.ensures.1 in
     let ω = g.F.Fabric.backing in
     let z = c.args.self.now.size in
     let b = c.args.self.now.state in

@@ -6,10 +6,10 @@ pub returns-in-Some : goal.returns-in-Some
 unfolding fitting
 returns-in-Some c = search rules
 
-pub returns-in-default : goal.returns-in-default
+pub returns-in_default : goal.returns-in_default
 unfolding fitting
-returns-in-default c = search rules
+returns-in_default c = search rules
 
-pub returns-in-default·2 : goal.returns-in-default·2
+pub returns-in_default-2 : goal.returns-in_default-2
 unfolding fitting
-returns-in-default·2 c = search rules
+returns-in_default-2 c = search rules

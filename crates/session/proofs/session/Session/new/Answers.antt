@@ -11,5 +11,5 @@ new-carrier-requires c = let asked = c.chosen-phase.result.0 in shims_in_range a
 pub unreachable-requires : goal.unreachable-requires
 unreachable-requires c =
     let asked = c.chosen-phase.result.0 in
-    made_over_empty asked.shims asked.lines (capacity_named asked.fabric asked.shims) c.in-default.field-0 c.chosen-phase.ensures.fits
-    (c.in-default.ensures ∙ ap (λ (x : Model no_backing). make_rule x.lanes asked.shims asked.lines) c.new-carrier.ensures.lanes)
+    made_over_empty asked.shims asked.lines (capacity_named asked.fabric asked.shims) c.in_default.field-0 c.chosen-phase.ensures.fits
+    (c.in_default.ensures ∙ ap (λ (x : Model no_backing). make_rule x.lanes asked.shims asked.lines) c.new-carrier.ensures.lanes)

@@ -33,5 +33,5 @@ returns-in-d c =
     let k = c.call-in-d in
     record { line = call_line c.args.self.now.sheet c.args.self.now.at Down k.result k.new.self.at (sym c.in_ok-wanted.ensures) c.in-d.is k.ensures.value k.ensures.after; sheet = k.ensures.sheet }
 
-pub returns-in-default : goal.returns-in-default
-returns-in-default c = search (rules, other_first)
+pub returns-in_default : goal.returns-in_default
+returns-in_default c = search (rules, other_first)

@@ -55,8 +55,8 @@ returns-in-Some g c =
           ∙ ap (λ q. after_put (stage_backing b) q (stage_model b rs M) k x) (put_some_went rs m k l ok s _ some x M'.lanes r space e.answer below);
     }
 
-pub offset-bounds-self-lane : goal.offset-bounds-self-lane
-offset-bounds-self-lane g c =
+pub offset_bounds-self-lane : goal.offset_bounds-self-lane
+offset_bounds-self-lane g c =
     let m = (g.F.Fabric.model c.args.self.now.below).lanes in
     omega (arith, put_in_range c.args.self.now.registers.messages m c.args.lane c.requires.1, (g.F.Fabric.sound c.args.self.now.below c.requires.0.0).lane_bound)
 
@@ -65,8 +65,8 @@ bounds-self-lane g c =
     let m = (g.F.Fabric.model c.args.self.now.below).lanes in
     omega (arith, put_in_range c.args.self.now.registers.messages m c.args.lane c.requires.1, (g.F.Fabric.sound c.args.self.now.below c.requires.0.0).lane_bound)
 
-pub offset-bounds-self-lane-in-None : goal.offset-bounds-self-lane-in-None
-offset-bounds-self-lane-in-None g c =
+pub offset_bounds-self-lane-in-None : goal.offset_bounds-self-lane-in-None
+offset_bounds-self-lane-in-None g c =
     let m = (g.F.Fabric.model c.args.self.now.below).lanes in
     omega (arith, put_in_range c.args.self.now.registers.messages m c.args.lane c.requires.1, (g.F.Fabric.sound c.args.self.now.below c.requires.0.0).lane_bound)
 

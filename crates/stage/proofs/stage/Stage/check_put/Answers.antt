@@ -10,8 +10,8 @@ returns-then-lane-lane_count g c =
     let m = (g.F.Fabric.model c.args.self.now.below).lanes in
     tables.no_put (length m) (stage_lane rs m) c.args.lane (omega (arith, c.lane_count.ensures, c.if-lane-lane_count.true))
 
-pub overflow-add-waiting : goal.overflow-add-waiting
-overflow-add-waiting g c =
+pub overflow_add-waiting : goal.overflow_add-waiting
+overflow_add-waiting g c =
     let s = g.F.Fabric.sound c.args.self.now.below c.requires.0 in
     omega (arith, c.waiting.ensures, s.fits c.args.lane, s.capacity_most c.args.lane)
 

@@ -31,8 +31,8 @@ returns g c =
           λ i. record { lanes = ml i; state = ms i };
     }
 
-pub offset-bounds-self-lane : goal.offset-bounds-self-lane
-offset-bounds-self-lane g c =
+pub offset_bounds-self-lane : goal.offset_bounds-self-lane
+offset_bounds-self-lane g c =
     let m = (g.F.Fabric.model c.args.self.now.below).lanes in
     omega (arith, take_in_range c.args.self.now.registers.messages m c.args.lane c.requires.1, (g.F.Fabric.sound c.args.self.now.below c.requires.0.0).lane_bound)
 

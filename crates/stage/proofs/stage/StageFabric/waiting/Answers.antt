@@ -7,8 +7,8 @@ returns-then-lane-lane_count g c =
     let m = (g.F.Fabric.model c.args.self.now.below).lanes in
     c.waiting-waiting.ensures ∙ waits_past c.args.self.now.registers.messages m c.args.lane (omega (arith, c.lane_count.ensures, c.if-lane-lane_count.true))
 
-pub overflow-add-result : goal.overflow-add-result
-overflow-add-result g c =
+pub overflow_add-result : goal.overflow_add-result
+overflow_add-result g c =
     let s = g.F.Fabric.sound c.args.self.now.below c.requires.0 in
     omega (arith, c.waiting-waiting.ensures, s.fits c.args.lane, s.capacity_most c.args.lane)
 
