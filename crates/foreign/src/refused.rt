@@ -38,23 +38,24 @@ pub(crate) fn refused(
     let foreign = Refusal::Foreign(lane);
     assert_eq!(rt; foreign.number(), 12);
     assert_eq!(rt; stand.act(call), Err(foreign));
-    stand.has_alone(twin, lane, msg)?;
+    stand.has_alone(rt, twin, lane, msg)?;
     stand.act(Step::Take(lane))?;
-    same_later(stand, twin)
+    same_later(rt, stand, twin)
 }
 
 // Both stands answer alike to all that comes: first to what is under way, then to every kind of call on every line.
-fn same_later(stand: &mut Stand, twin: &mut Stand) -> Result<(), Fail>
+fn same_later(rt: &impl Abort, stand: &mut Stand, twin: &mut Stand) -> Result<(), Fail>
     requires { (RingLawful stand.old.ring) × (RingLawful twin.old.ring) }
 {
     stand.agrees(
+        rt,
         twin,
         &[up(1), up(1), down(1), down(1), up(0), down(0), down(0)],
     )?;
-    stand.agrees(twin, &line_calls(0))?;
-    stand.agrees(twin, &line_calls(1))?;
-    stand.agrees(twin, &line_calls(2))?;
-    stand.agrees(twin, &[fence(0), up(0), down(0), down(1)])
+    stand.agrees(rt, twin, &line_calls(0))?;
+    stand.agrees(rt, twin, &line_calls(1))?;
+    stand.agrees(rt, twin, &line_calls(2))?;
+    stand.agrees(rt, twin, &[fence(0), up(0), down(0), down(1)])
 }
 
 // Calls on a line that show what the hub and both shims have of it: who holds it, the words, and by the updates the stamps.
