@@ -1,9 +1,9 @@
 -- A down that is refused or accepted by what its message makes of the shim.
-use Rattle.std.proofs.Common.{◌≡◌, ℕ, ◌<◌, Bool, true, false, cond, List, [], ◌∷◌, Some, None, Ok, Err, sym, refl, ap, ◌∙◌, arith}
+use Rattle.std.proofs.Common.{◌≡◌, ℕ, ◌<◌, Bool, true, false, cond, [], ◌∷◌, Some, None, Ok, Err, sym, refl, ap, ◌∙◌, arith}
 use Rattle.std.proofs.lemmas.Bool.{lt-leb}
 use Rattle.fabric.specs.Backing.{Backing, Model, take_on}
 use Rattle.fabric.specs.declared.message.Message.{Message}
-use Rattle.rules.specs.Checks.{After, after, unless_refused, message_checks, foreign_on, first_on}
+use Rattle.rules.specs.Checks.{after, unless_refused, message_checks, foreign_on, first_on}
 use Rattle.rules.specs.Down.{foreign_to, foreign_down, handed, down_rule}
 use Rattle.rules.specs.Kinds.{kind_at}
 use Rattle.rules.specs.Refusals.{passing}
@@ -13,7 +13,7 @@ use Rattle.rules.specs.declared.state.Size.{Size}
 use Rattle.rules.specs.declared.state.State.{State}
 use Rattle.effects.specs.Delivery.{delivery_of, delivered}
 use Rattle.effects.specs.declared.shim.Delivery.{Delivery}
-use Rattle.board.proofs.Firsts.{FirstIs, first_is}
+use Rattle.board.proofs.Firsts.{first_is}
 use Rattle.board.proofs.Passing.{passed_by}
 
 foreign_none : (t : Bool) (d : Delivery) → None ≡ cond t None (Some d) → t ≡ true

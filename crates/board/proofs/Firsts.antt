@@ -1,14 +1,13 @@
 -- What the first message of a lane says of the lane.
-use Rattle.std.proofs.Common.{◌≡◌, ℕ, ◌+◌, ◌*◌, ◌<◌, Bool, true, false, cond, not, eqb, leb, List, [], ◌∷◌, length, Ok, Err, Result, sym, refl, ap, ◌∙◌, arith}
+use Rattle.std.proofs.Common.{◌≡◌, ℕ, ◌+◌, ◌*◌, ◌<◌, Bool, true, false, eqb, leb, List, [], ◌∷◌, length, Ok, Result, refl, ap, ◌∙◌, arith}
 use Rattle.std.proofs.lemmas.Bool.{eqb-true, leb-false}
 use Rattle.fabric.specs.Backing.{Backing, Model, take_on, after_take}
 use Rattle.fabric.specs.Lanes.{Lane, messages_of, take_answer, rest_of}
 use Rattle.fabric.specs.declared.fault.FabricFault.{FabricFault}
 use Rattle.fabric.specs.declared.message.Message.{Message}
 use Rattle.fabric.proofs.Answered.{take_ok}
-use Rattle.rules.specs.Checks.{message_checks, wrong_lanes, no_shim, is_empty, lane_empty, first_message, first_on}
+use Rattle.rules.specs.Checks.{message_checks, is_empty, first_message, first_on}
 use Rattle.rules.specs.Refusals.{passing}
-use Rattle.rules.specs.declared.refusal.Refusal.TheVariants.{WrongSize, NoShim, Fabric}
 use Rattle.rules.specs.declared.state.Size.{Size}
 
 -- the lanes are the board's, there is such a shim, and m is the first message of lane k

@@ -1,10 +1,8 @@
 -- An up that is refused or accepted, past the tests that its message is found by.
-use Rattle.std.proofs.Common.{◌≡◌, ℕ, ◌*◌, Bool, true, false, cond, List, [], ◌∷◌, length, Ok, Err, Option, sym, refl, ap, ◌∙◌, append-nil, arith, length-set}
+use Rattle.std.proofs.Common.{◌≡◌, ℕ, true, List, [], ◌∷◌, Ok, Err, Option, sym, ap, ◌∙◌, append-nil}
 use Rattle.fabric.specs.Backing.{Backing, Model, take_on}
-use Rattle.fabric.specs.Lanes.{Lane, take_lanes}
 use Rattle.fabric.specs.declared.message.Message.{Message}
-use Rattle.rules.specs.Checks.{After, after, unless_refused, message_checks, foreign_on, first_on}
-use Rattle.rules.specs.Kinds.{kind_at}
+use Rattle.rules.specs.Checks.{after, unless_refused, message_checks, foreign_on, first_on}
 use Rattle.rules.specs.Refusals.{Check, passing}
 use Rattle.rules.specs.State.{up_lane, hub_at, with_hub}
 use Rattle.rules.specs.Up.{sent_by, sent_to, send_all, hub_by, foreign_up, full_lanes, performed, up_rule}
@@ -15,7 +13,7 @@ use Rattle.rules.specs.declared.refusal.Refusal.TheVariants.{Foreign}
 use Rattle.rules.specs.declared.state.Size.{Size}
 use Rattle.rules.specs.declared.state.State.{State}
 use Rattle.board.specs.Upward.{Upward}
-use Rattle.board.proofs.Firsts.{FirstIs, first_is}
+use Rattle.board.proofs.Firsts.{first_is}
 use Rattle.board.proofs.Passing.{passed_by, refused_by}
 
 module _ (ω : Backing) (z : Size) (b : State) (φ : Model ω) (s : ℕ) (m : Message) (found : Ok m ≡ passing (message_checks z φ.lanes s (up_lane s)) (first_on φ.lanes (up_lane s))) where

@@ -1,8 +1,8 @@
 -- Messages to several shims, one after the other.
-use Rattle.std.proofs.Common.{◌≡◌, ℕ, zero, suc, ◌+◌, ◌*◌, ◌<◌, ◌≤◌, Bool, true, false, cond, leb, ◌≢◌, List, length, is_some, Some, None, Ok, Err, Option, Result, sym, refl, ap, ◌∙◌, add-one, arith, length-set, get_or-set_other}
+use Rattle.std.proofs.Common.{◌≡◌, ℕ, zero, suc, ◌+◌, ◌*◌, ◌<◌, ◌≤◌, leb, ◌≢◌, List, length, is_some, Some, None, Ok, Option, Result, sym, refl, ap, ◌∙◌, add-one, arith, length-set, get_or-set_other}
 use Rattle.std.proofs.lemmas.Bool.{leb-false}
-use Rattle.fabric.specs.Backing.{Backing, Model, put_on, take_on, after_put}
-use Rattle.fabric.specs.Lanes.{Lane, is_full, lane_of, messages_of, capacity_of, put_answer, take_lanes}
+use Rattle.fabric.specs.Backing.{Backing, Model, put_on, after_put}
+use Rattle.fabric.specs.Lanes.{Lane, lane_of, messages_of, capacity_of, put_answer, take_lanes}
 use Rattle.fabric.specs.declared.fault.FabricFault.{FabricFault}
 use Rattle.fabric.specs.declared.message.Message.{Message}
 use Rattle.fabric.proofs.Answered.{put_ok}

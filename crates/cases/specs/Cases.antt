@@ -1,13 +1,12 @@
 -- Cases that follow from the rules.
-use Rattle.std.specs.Prelude.{◌≡◌, false, List, [], ◌∷◌, set, replicate, Ok, Err}
+use Rattle.std.specs.Prelude.{◌≡◌, false, [], ◌∷◌, replicate, Err}
 use Rattle.fabric.specs.Backing.{no_backing, put_on}
 use Rattle.fabric.specs.Frame.{frame_of}
-use Rattle.fabric.specs.Lanes.{set_messages, messages_of}
+use Rattle.fabric.specs.Lanes.{set_messages}
 use Rattle.fabric.specs.declared.fault.FabricFault.TheVariants.{Full}
 use Rattle.ring.specs.Ring.{ring_capacity}
 use Rattle.rules.specs.Checks.{first_on}
 use Rattle.rules.specs.Evict.{evict_rule}
-use Rattle.rules.specs.Fence.{fence_rule}
 use Rattle.rules.specs.Refusals.{refusal_number}
 use Rattle.rules.specs.Requests.{store_message, fence_message}
 use Rattle.rules.specs.State.{no_copy, settled_at, with_line, fresh_state, up_lane, down_lane}

@@ -1,13 +1,12 @@
 -- Boards and lanes for the cases: line 0 of a small board, with one message under way.
-use Rattle.std.specs.Prelude.{ℕ, ◌*◌, Bool, true, false, List, [], ◌∷◌, replicate, Result, slice_set}
+use Rattle.std.specs.Prelude.{ℕ, ◌*◌, true, false, replicate, slice_set}
 use Rattle.fabric.specs.Backing.{Model, no_backing, put_on}
-use Rattle.fabric.specs.Lanes.{Lane, empty_lanes}
+use Rattle.fabric.specs.Lanes.{empty_lanes}
 use Rattle.fabric.specs.declared.message.Message.{Message}
 use Rattle.ring.specs.Ring.{ring_capacity}
-use Rattle.rules.specs.Checks.{After}
 use Rattle.rules.specs.Down.{down_rule}
 use Rattle.rules.specs.Kinds.{kind_number}
-use Rattle.rules.specs.State.{line_at, down_lane, with_line, with_hub, fresh_state, fresh_hub_line}
+use Rattle.rules.specs.State.{line_at, down_lane, with_line, with_hub, fresh_state}
 use Rattle.rules.specs.declared.kind.Kind.TheVariants.{Write, WriteAck}
 use Rattle.rules.specs.declared.state.Hold.TheVariants.{Unsettled}
 use Rattle.rules.specs.declared.state.ShimLine.{ShimLine}

@@ -1,6 +1,6 @@
 -- One line of one shim is what the shim's own acts, since the last call of the hub's log that it has heard of, make of the line at
 -- the hub then. To hear of one more call of the log commutes with the shim's own acts.
-use Rattle.std.proofs.Common.{◌≡◌, ℕ, suc, ◌+◌, ◌≤◌, Bool, true, false, cond, eqb, ltb, ◌≢◌, ◌⊎◌, List, [], ◌∷◌, refl, ap, ◌∙◌, inl, inr, true≢false, arith}
+use Rattle.std.proofs.Common.{◌≡◌, ℕ, suc, ◌+◌, ◌≤◌, Bool, true, false, cond, eqb, ltb, ◌⊎◌, List, [], ◌∷◌, refl, ap, ◌∙◌, inl, inr, true≢false, arith}
 use mathlib.Core.Bool.{false≢true}
 use Rattle.std.proofs.lemmas.Bool.{eqb-true, ltb-true, ltb-false, lt-ltb, le-ltb}
 use Rattle.order.proofs.Machine.{Request, Write, Read, Sync, Drop, Act, Writes, Reads, Drops, Nothing, act, Notice, Line, NotHeld, Unsettled, Settled, Wait, Ready, ForLoad}

@@ -1,5 +1,5 @@
 -- The entries of a shim are the calls that the trace shows as sent up, and the log is what the trace shows as performed, rank by rank.
-use Rattle.std.proofs.Common.{◌≡◌, ℕ, ◌≤◌, Bool, true, false, ◌&&◌, eqb, ◌≢◌, List, [], ◌∷◌, length, sym, refl, ap, ◌∙◌, inl, inr, true≢false, arith}
+use Rattle.std.proofs.Common.{◌≡◌, ℕ, ◌≤◌, Bool, true, false, ◌&&◌, eqb, List, [], ◌∷◌, length, sym, refl, ap, ◌∙◌, inl, inr, true≢false, arith}
 use Rattle.std.proofs.lemmas.Bool.{and_right, eq-eqb, and_from}
 use Rattle.order.specs.Common.{Call, Load, Store, Fence, Evict, Up, Down, Outcome, Trace, At, shim_of, sends, performs}
 use Rattle.order.proofs.Machine.{Request, Write, Read, Sync, Drop}

@@ -1,5 +1,5 @@
 -- A shim and the hub follow from the history, and each step of the board keeps this.
-use Rattle.std.proofs.Common.{◌≡◌, ℕ, ◌+◌, ◌<◌, ◌≤◌, Bool, eqb, ◌≢◌, ◌⊎◌, List, [], ◌∷◌, ◌++◌, length, sym, refl, ap, ◌∙◌, subst, inl, inr, append_assoc, append-nil}
+use Rattle.std.proofs.Common.{◌≡◌, ℕ, ◌<◌, ◌≤◌, Bool, eqb, ◌≢◌, ◌⊎◌, List, [], ◌∷◌, ◌++◌, length, sym, refl, ap, ◌∙◌, subst, inl, inr, append_assoc, append-nil}
 use mathlib.Core.Path.{fun_ext}
 use Rattle.order.proofs.Machine.{Request, Act, act, Notice, Line, Wait, Ready, line_after, wait_after, word_after, stamp_after, shares_after, notices, Board, SameHub, SameShim}
 use Rattle.order.proofs.Machine.{Sends, HubPerforms, Hears}

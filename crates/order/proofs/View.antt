@@ -1,6 +1,6 @@
 -- The history behind a board: the log of the calls that the hub performed, and for each shim how much of it the shim has heard of.
 -- The shim's lines, what it waits for and its down lane are functions of these.
-use Rattle.std.proofs.Common.{◌≡◌, ℕ, suc, ◌+◌, ◌≤◌, Bool, true, false, cond, ◌||◌, eqb, ◌≢◌, ◌⊎◌, List, [], ◌∷◌, ◌++◌, length, refl, ap, ◌∙◌, subst, inl, inr, arith}
+use Rattle.std.proofs.Common.{◌≡◌, ℕ, suc, ◌≤◌, Bool, true, false, cond, ◌||◌, eqb, ◌⊎◌, List, [], ◌∷◌, ◌++◌, length, refl, ap, ◌∙◌, subst, inl, inr, arith}
 use mathlib.Core.Bool.{false≢true}
 use Rattle.order.specs.Common.{Value, Ended}
 use Rattle.order.proofs.Machine.{Request, Write, Read, Sync, Drop, act, Notice, Update, Ack, Reply, OtherFence, OwnFence, Line, Wait, Ready, ForStore, sc, wait_after}

@@ -1,5 +1,5 @@
 -- What a call leaves, and the tests that it is refused by.
-use Rattle.std.specs.Prelude.{ℕ, ◌*◌, Bool, true, false, cond, not, ◌||◌, List, [], ◌∷◌, length, is_some, Ok, Err, Result, ◌==◌, nat_le}
+use Rattle.std.specs.Prelude.{ℕ, ◌*◌, Bool, true, false, cond, not, ◌||◌, List, [], ◌∷◌, length, is_some, Err, Result, ◌==◌, nat_le}
 use Rattle.fabric.specs.Backing.{Backing, Model}
 use Rattle.fabric.specs.Lanes.{Lane, is_full, messages_of}
 use Rattle.fabric.specs.declared.message.Message.{Message}

@@ -1,7 +1,6 @@
 -- The messages that shims send up. Fields that a message does not use are 0.
 use Rattle.std.specs.Prelude.{ℕ, Bool, false, not}
 use Rattle.fabric.specs.declared.message.Message.{Message}
-use Rattle.rules.specs.declared.kind.Kind.{Kind}
 use Rattle.rules.specs.declared.kind.Kind.TheVariants.{Write, ReadRequest, FenceRequest, Drop}
 use Rattle.rules.specs.declared.strength.Strength.{Strength}
 use Rattle.rules.specs.declared.strength.Strength.TheVariants.{SeqCst}

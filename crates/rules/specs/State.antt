@@ -1,5 +1,5 @@
 -- The state of a board: its parts, how they are read and written, and the state at first.
-use Rattle.std.specs.Prelude.{ℕ, ◌+◌, ◌*◌, Bool, true, false, List, [], replicate, slice_index_or, slice_set}
+use Rattle.std.specs.Prelude.{ℕ, ◌+◌, ◌*◌, Bool, true, false, [], replicate, slice_index_or, slice_set}
 use Rattle.fabric.specs.Lanes.{shim_limit}
 use Rattle.rules.specs.declared.state.Hold.{Hold}
 use Rattle.rules.specs.declared.state.Hold.TheVariants.{NotHeld, Unsettled, Settled}

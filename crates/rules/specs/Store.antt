@@ -1,5 +1,5 @@
 -- The rule of a store: the shim's copy changes, and the store goes up. An SC store waits for its acknowledgement.
-use Rattle.std.specs.Prelude.{ℕ, ◌+◌, cond, eqb, List, [], ◌∷◌, Ok}
+use Rattle.std.specs.Prelude.{ℕ, ◌+◌, cond, List, [], ◌∷◌, Ok}
 use Rattle.fabric.specs.Backing.{Backing, Model, put_on}
 use Rattle.fabric.specs.Lanes.{Lane}
 use Rattle.rules.specs.declared.answer.Answer.TheVariants.{Done, Waits}

@@ -23,7 +23,7 @@ use Rattle.rules.specs.declared.state.Size.{Size}
 use Rattle.rules.specs.declared.state.State.{State}
 use Rattle.rules.specs.declared.state.Wait as rules
 use Rattle.rules.specs.declared.state.Wait.TheVariants as wait
-use Rattle.order.specs.Common.{Load, Store, Fence, Evict, Done, Waits, Value}
+use Rattle.order.specs.Common.{Load, Fence, Evict, Done, Waits, Value}
 use Rattle.order.proofs.Machine.{Request, Read, Sync, Drop, Nothing, act, Settled, Ready, copy, line_after, wait_after, Sends, hit, miss, fences, evicts}
 use Rattle.run.proofs.Meaning.{wait_of, line_of, request_of, notice_of, meaning}
 use Rattle.run.proofs.Tables.{Fits, set_each, shim_here, fits_shim}

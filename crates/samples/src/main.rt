@@ -1,4 +1,6 @@
 // Prints the frame of a store, and a message that was carried through two stages over frames.
+#![tactic(auto)]
+
 ghost use Rattle.std.specs.Prelude.{◌≡◌, [], ◌∷◌};
 
 use fabric::{FRAME_LEN, encode};

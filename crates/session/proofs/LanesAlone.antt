@@ -1,6 +1,6 @@
 -- What a call says, and what it leaves of the board and the lanes, depends on the lanes alone, and not on what lies behind them.
-use Rattle.std.proofs.Common.{◌≡◌, ℕ, zero, suc, Bool, true, false, cond, List, [], ◌∷◌, Some, None, Ok, Err, Option, refl, ap, ◌∙◌}
-use Rattle.fabric.specs.Backing.{Backing, Model, no_backing, put_on, take_on}
+use Rattle.std.proofs.Common.{◌≡◌, ℕ, zero, suc, Bool, true, false, cond, List, [], ◌∷◌, Some, None, Ok, Err, Option, refl, ap}
+use Rattle.fabric.specs.Backing.{Backing, Model, no_backing, take_on}
 use Rattle.fabric.specs.declared.message.Message.{Message}
 use Rattle.rules.specs.Calls.{call_rule}
 use Rattle.rules.specs.Checks.{After, after, unless_refused, lane_full, first_on}
@@ -10,17 +10,15 @@ use Rattle.rules.specs.Fence.{fence_checks}
 use Rattle.rules.specs.Kinds.{kind_at}
 use Rattle.rules.specs.Load.{load_checks, load_miss}
 use Rattle.rules.specs.Refusals.{Check}
-use Rattle.rules.specs.Requests.{load_message, store_message, fence_message, drop_message}
 use Rattle.rules.specs.State.{up_lane, down_lane, line_at, hub_at, is_held, with_hub}
 use Rattle.rules.specs.Store.{store_checks, store_accepted}
 use Rattle.rules.specs.Strengths.{is_sc}
 use Rattle.rules.specs.Up.{send_one, send_all, sent_to, hub_by, up_checks, performed}
-use Rattle.rules.specs.declared.answer.Answer.TheVariants.{Done, Waits, Value, Handled}
+use Rattle.rules.specs.declared.answer.Answer.TheVariants.{Handled}
 use Rattle.rules.specs.declared.call.Call.{Call}
 use Rattle.rules.specs.declared.call.Call.TheVariants.{Load, Store, Fence, Evict, Up, Down}
 use Rattle.rules.specs.declared.state.Size.{Size}
 use Rattle.rules.specs.declared.state.State.{State}
-use Rattle.rules.specs.declared.state.Wait.TheVariants as wait
 use Rattle.session.specs.Carrier.{bare}
 
 module _ (ω : Backing) where

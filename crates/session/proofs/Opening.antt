@@ -1,8 +1,8 @@
 -- A board over lanes just made: nothing waits, so that its making is not refused.
-use Rattle.std.proofs.Common.{◌≡◌, ℕ, zero, suc, ◌*◌, ◌<◌, ◌≤◌, true, false, ◌&&◌, ◌||◌, eqb, ltb, leb, ◌⊎◌, List, [], length, get_or, Ok, Err, sym, refl, ap, ◌∙◌, inl, inr, arith}
+use Rattle.std.proofs.Common.{◌≡◌, ℕ, zero, suc, ◌*◌, ◌≤◌, true, false, ◌&&◌, ◌||◌, ltb, leb, [], length, get_or, Ok, Err, refl, ap, ◌∙◌, arith}
 use lib.ListN.{length-replicate, get_or-replicate}
 use Rattle.std.proofs.lemmas.Bool.{eq-eqb, leb-true, and_parts}
-use Rattle.fabric.specs.Lanes.{Lane, shim_limit, no_lane, empty_lanes, messages_of}
+use Rattle.fabric.specs.Lanes.{Lane, shim_limit, no_lane, empty_lanes}
 use Rattle.rules.specs.Make.{any_waits, make_rule}
 use Rattle.rules.specs.Sizes.{is_size, line_limit}
 use Rattle.rules.specs.State.{fresh_state}

@@ -1,7 +1,7 @@
 -- What a sheet prints, item after item.
-use Rattle.std.proofs.Common.{◌≡◌, ℕ, zero, suc, ◌+◌, ◌-◌, ◌<◌, List, [], ◌∷◌, ◌++◌, sym, refl, ap, ◌∙◌, append_assoc, append-nil, arith}
+use Rattle.std.proofs.Common.{◌≡◌, ℕ, suc, ◌+◌, ◌-◌, ◌<◌, List, ◌++◌, sym, ap, ◌∙◌, append_assoc, append-nil, arith}
 use Rattle.std.specs.List.{flat_map}
-use Rattle.session.specs.Items.{Item, item_bytes}
+use Rattle.session.specs.Items.{item_bytes}
 use Rattle.session.specs.Playing.{Play, next_item, items_from}
 
 -- what is still to be printed, where k of n items have been

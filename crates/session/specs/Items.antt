@@ -1,6 +1,5 @@
 -- What a sheet prints, item by item, and the bytes of each item.
 use Rattle.std.specs.Prelude.{ℕ, List, [], ◌∷◌, ◌++◌, Ok, Err, codes, decimal, Result}
-use Rattle.std.specs.List.{flat_map}
 use Rattle.words.specs.Lengths.{space, line_feed}
 use Rattle.words.specs.declared.fault.Fault.{Fault}
 use Rattle.rules.specs.Refusals.{refusal_number, refusal_carries}

@@ -112,11 +112,7 @@ pub fn write(heap: Global, out: &mut Vec<u8>, printed: Printed) -> Result<(), Al
     match printed {
         Printed::Answered { step, outcome } => write_step(heap, out, step, outcome),
         Printed::Note(text) => write_line(out, text),
-        Printed::Faulty { fault, line } => put_verdict(
-            heap,
-            out,
-            Verdict::Faulty { fault, line },
-        ),
+        Printed::Faulty { fault, line } => put_verdict(heap, out, Verdict::Faulty { fault, line }),
         Printed::NoBoard => put_verdict(heap, out, Verdict::WrongBoard),
         Printed::End => Ok(()),
     }

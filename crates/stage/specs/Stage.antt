@@ -1,5 +1,5 @@
 -- What a stage means.
-use Rattle.std.specs.Prelude.{◌≡◌, ℕ, zero, suc, ◌+◌, ◌<◌, ◌≤◌, List, [], ◌∷◌, ◌++◌, length, None, Option, slice_index_or, refl}
+use Rattle.std.specs.Prelude.{◌≡◌, ℕ, zero, suc, ◌<◌, ◌≤◌, List, [], ◌∷◌, ◌++◌, length, None, Option, slice_index_or, refl}
 use Rattle.std.specs.Option.{option_to_list}
 use Rattle.fabric.specs.declared.message.Message.{Message}
 use Rattle.fabric.specs.Lanes.{Lane, lane_limit, with_messages, rest_of, take_answer, lane_of, messages_of, capacity_of}

@@ -1,4 +1,4 @@
-use Rattle.std.proofs.Common.{◌≡◌, ap, ◌∙◌, rules}
+use Rattle.std.proofs.Common.{ap, ◌∙◌, rules}
 use Rattle.fabric.specs.Backing.{Model}
 use Rattle.frames.specs.Frames.{buffer_backing}
 use Rattle.run.specs.Whole.{Left, whole_rule}

@@ -1,5 +1,5 @@
-use Rattle.std.proofs.Common.{◌≡◌, ℕ, ◌+◌, List, ◌++◌, length, vec_items, sym, ap, ◌∙◌, subst, arith}
-use Rattle.session.specs.Items.{Item, item_bytes}
+use Rattle.std.proofs.Common.{ℕ, ◌+◌, List, ◌++◌, length, vec_items, sym, ap, ◌∙◌, subst, arith}
+use Rattle.session.specs.Items.{item_bytes}
 use Rattle.session.specs.Meaning.{play_of}
 use Rattle.session.specs.Playing.{Play, next_item, printed_by}
 use Rattle.session.proofs.Agreeing.{agrees}
