@@ -3,7 +3,7 @@ use Rattle.std.proofs.Common.{◌≡◌, ℕ, zero, suc, ◌+◌, ◌≤◌, Boo
 use Rattle.std.proofs.lemmas.Slice.Eq.{bytes_eq-Decides}
 use Rattle.std.proofs.lemmas.List.{drop_all}
 use Rattle.std.proofs.lemmas.Bool.{cases_Bool, eqb-true, leb-true}
-use Rattle.std.specs.List.{flat_map, AllByRecursion as All}
+use Rattle.std.specs.List.{flat_map, AllByRecursion}
 use Rattle.std.specs.Str.{bytes_eq}
 use Rattle.words.specs.declared.fault.Fault.{Fault}
 use Rattle.sheet.specs.declared.op.Op.{Op}
@@ -101,7 +101,7 @@ module _ (s : List ℕ) (a : ℕ) where
 
 -- the entries that were read from place a on are all that stands there
 abbrev EntriesRead : List ℕ → ℕ → List Entry → Type 0
-EntriesRead s a es = (drop a s ≡ flat_map entry_line es) × All WellFormed es
+EntriesRead s a es = (drop a s ≡ flat_map entry_line es) × AllByRecursion WellFormed es
 
 none_read : (s : List ℕ) (a : ℕ) (es : List Entry) → length s ≤ a → [] ≡ es → EntriesRead s a es
 none_read s a es h is = subst (EntriesRead s a) is (drop_all a s h, tt)

@@ -2,7 +2,7 @@
 use Rattle.std.proofs.Common.{◌≡◌, ℕ, zero, suc, ◌+◌, ◌<◌, ◌≤◌, Bool, true, false, cond, eqb, List, [], ◌∷◌, ◌++◌, length, get_or, take, drop, Some, None, Ok, Err, Result, sym, refl, ap, ◌∙◌, subst, ⊎_elim, append_assoc, arith, length-append, length-drop}
 use Rattle.std.proofs.lemmas.List.{take_at}
 use Rattle.std.proofs.lemmas.Bool.{cases_Bool, or_parts, le-leb, lt-leb, le-ltb}
-use Rattle.std.specs.List.{flat_map, AllByRecursion as All}
+use Rattle.std.specs.List.{flat_map, AllByRecursion}
 use Rattle.std.specs.Str.{bytes_eq}
 use Rattle.rules.specs.declared.call.Call.TheVariants as call
 use Rattle.words.specs.declared.fault.Fault.{Fault}
@@ -106,14 +106,14 @@ free_line (b ∷ bs) f = (no_feed b f.0, free_line bs f.1)
 word_line_length : (w : List ℕ) (ws : List (List ℕ)) (t : List ℕ) → Free ends_word w → line_length ((w ++ after_word ws) ++ t) ≡ length w + line_length (after_word ws ++ t)
 word_line_length w ws t free = ap line_length (append_assoc w (after_word ws) t) ∙ before_free ends_line w (after_word ws ++ t) (free_line w free)
 
-after_length : (ws : List (List ℕ)) (t : List ℕ) → All (Free ends_word) ws → line_length (after_word ws ++ t) + 1 ≡ length (after_word ws)
+after_length : (ws : List (List ℕ)) (t : List ℕ) → AllByRecursion (Free ends_word) ws → line_length (after_word ws ++ t) + 1 ≡ length (after_word ws)
 after_length [] t free = refl
 after_length (w ∷ ws) t free = omega (arith, word_line_length w ws t free.0, after_length ws t free.1, length-append w (after_word ws))
 
-words_length : (w : List ℕ) (ws : List (List ℕ)) (t : List ℕ) → Free ends_word w → All (Free ends_word) ws → line_length (words_line (w ∷ ws) ++ t) + 1 ≡ length (words_line (w ∷ ws))
+words_length : (w : List ℕ) (ws : List (List ℕ)) (t : List ℕ) → Free ends_word w → AllByRecursion (Free ends_word) ws → line_length (words_line (w ∷ ws) ++ t) + 1 ≡ length (words_line (w ∷ ws))
 words_length w ws t free frees = omega (arith, word_line_length w ws t free, after_length ws t frees, length-append w (after_word ws))
 
-all_free : (os : List Operand) (vs : List ℕ) → Fits os vs → All (Free ends_word) (spelled_all os vs)
+all_free : (os : List Operand) (vs : List ℕ) → Fits os vs → AllByRecursion (Free ends_word) (spelled_all os vs)
 all_free [] vs fits = tt
 all_free (o ∷ os) [] fits = absurd fits
 all_free (o ∷ os) (v ∷ vs) fits = (spelled_free o v fits.0, all_free os vs fits.1)
@@ -210,7 +210,7 @@ module _ (s : List ℕ) (a : ℕ) where
       ∙ ap (λ (r : Result Entry Fault). followed_by (followed_by r (λ x. Ok (Some x))) (λ next. and_then next (entries_from k s (line_end s a + 1)))) reads
       ∙ ap (λ (r : Result (List Entry) Fault). followed_by r (λ xs. Ok (e ∷ xs))) rest
 
-entries_read : (es : List Entry) (k : ℕ) (s : List ℕ) (a : ℕ) → All WellFormed es → length s ≤ k + a → drop a s ≡ flat_map entry_line es → entries_from k s a ≡ Ok es
+entries_read : (es : List Entry) (k : ℕ) (s : List ℕ) (a : ℕ) → AllByRecursion WellFormed es → length s ≤ k + a → drop a s ≡ flat_map entry_line es → entries_from k s a ≡ Ok es
 entries_read [] k s a well enough d = none_left s a k (omega (arith, ap length d, length-drop a s))
 entries_read (e ∷ es) zero s a well enough d =
     let one = entry_read e s a (flat_map entry_line es) well.0 d in
