@@ -4,11 +4,11 @@
 set -eu
 root=$(cd "$(dirname "$0")/.." && pwd)
 name=$1
-program=$root/target/bin/$name
-if [ ! -x "$program" ] || [ -n "$(find "$root/crates" "$root/crates.txt" -type f -newer "$program" -print -quit)" ]; then
+program=$root/crates/$name/out/$name
+if [ ! -x "$program" ] || [ -n "$(find "$root/crates" "$root/crates.txt" -name out -prune -o -type f -newer "$program" -print -quit)" ]; then
     echo "$name: proving and building the program, which takes some minutes" >&2
     log=$(mktemp)
-    (cd "$root" && rt check "$name") >"$log" 2>&1 || { tail -n 20 "$log" >&2; exit 1; }
+    (cd "$root/crates/$name" && rt run </dev/null) >"$log" 2>&1 || { tail -n 20 "$log" >&2; exit 1; }
     rm "$log"
     touch "$program"
 fi

@@ -21,18 +21,19 @@ edited() { # EDIT FILE
         }' "$2"
 }
 
+tar --exclude=out -c crates crates.txt | tar -x -C "$copy"
 bad=0
 for edit in crates/*/refused/*.edit; do
     crate=${edit#crates/} crate=${crate%%/*}
     error=$(field error "$edit") file=crates/$crate/$(field file "$edit")
-    rm -rf "$copy/crates"
-    cp -r crates crates.txt "$copy"
-    edited "$edit" "$file" >"$copy/$file" || { echo "$edit: the old text must stand once"; bad=1; continue; }
-    if (cd "$copy" && rt dev "$crate") 2>&1 | grep -q "error\[$error\]"; then
+    edited "$edit" "$file" >"$copy/$file" || { echo "$edit: the old text must stand once"; bad=1; }
+    # It reads the crate and proves nothing of it: the error shows before any proof.
+    if (cd "$copy/crates/$crate" && rt check --only "") 2>&1 | grep -q "error\[$error\]"; then
         echo "$edit: refused: $error"
     else
         echo "$edit: NOT refused by $error"
         bad=1
     fi
+    cp "$file" "$copy/$file"
 done
 exit $bad
