@@ -1,31 +1,30 @@
 // A foreign message is refused, and nothing changes.
 ghost use Rattle.ring.specs.Ring.{RingLawful};
 
+use crate::check::check_eq;
 use crate::stand::Stand;
 use crate::step::*;
 use fabric::Message;
 use rules::Refusal;
-use std::process::Abort;
 use std::test::*;
 
 // On a board after these steps, shim 1's up refuses the message as foreign.
-pub(crate) fn refused_up(rt: &impl Abort, steps: &[Step], msg: Message) -> Result<(), Fail> {
+pub(crate) fn refused_up(steps: &[Step], msg: Message) -> Result<(), Fail> {
     let mut stand = Stand::after(steps)?;
     let mut twin = Stand::after(steps)?;
-    refused(rt, &mut stand, &mut twin, up(1), UP, msg)
+    refused(&mut stand, &mut twin, up(1), UP, msg)
 }
 
 // On a board after these steps, shim 1's down refuses the message as foreign.
-pub(crate) fn refused_down(rt: &impl Abort, steps: &[Step], msg: Message) -> Result<(), Fail> {
+pub(crate) fn refused_down(steps: &[Step], msg: Message) -> Result<(), Fail> {
     let mut stand = Stand::after(steps)?;
     let mut twin = Stand::after(steps)?;
-    refused(rt, &mut stand, &mut twin, down(1), DOWN, msg)
+    refused(&mut stand, &mut twin, down(1), DOWN, msg)
 }
 
 // The call refuses the message as foreign, which a hand put on its lane. The message stays there, every other lane is as on the twin,
 // which never had it, and once it is taken off, so is all that comes.
 pub(crate) fn refused(
-    rt: &impl Abort,
     stand: &mut Stand,
     twin: &mut Stand,
     call: Step,
@@ -36,26 +35,25 @@ pub(crate) fn refused(
 {
     stand.act(Step::Put(lane, msg))?;
     let foreign = Refusal::Foreign(lane);
-    assert_eq!(rt; foreign.number(), 12);
-    assert_eq!(rt; stand.act(call), Err(foreign));
-    stand.has_alone(rt, twin, lane, msg)?;
+    check_eq(foreign.number(), 12)?;
+    check_eq(stand.act(call), Err(foreign))?;
+    stand.has_alone(twin, lane, msg)?;
     stand.act(Step::Take(lane))?;
-    same_later(rt, stand, twin)
+    same_later(stand, twin)
 }
 
 // Both stands answer alike to all that comes: first to what is under way, then to every kind of call on every line.
-fn same_later(rt: &impl Abort, stand: &mut Stand, twin: &mut Stand) -> Result<(), Fail>
+fn same_later(stand: &mut Stand, twin: &mut Stand) -> Result<(), Fail>
     requires { (RingLawful stand.old.ring) × (RingLawful twin.old.ring) }
 {
     stand.agrees(
-        rt,
         twin,
         &[up(1), up(1), down(1), down(1), up(0), down(0), down(0)],
     )?;
-    stand.agrees(rt, twin, &line_calls(0))?;
-    stand.agrees(rt, twin, &line_calls(1))?;
-    stand.agrees(rt, twin, &line_calls(2))?;
-    stand.agrees(rt, twin, &[fence(0), up(0), down(0), down(1)])
+    stand.agrees(twin, &line_calls(0))?;
+    stand.agrees(twin, &line_calls(1))?;
+    stand.agrees(twin, &line_calls(2))?;
+    stand.agrees(twin, &[fence(0), up(0), down(0), down(1)])
 }
 
 // Calls on a line that show what the hub and both shims have of it: who holds it, the words, and by the updates the stamps.

@@ -1,12 +1,12 @@
 ghost use Rattle.ring.specs.Ring.{RingLawful};
 ghost use Rattle.std.specs.Prelude.{IfOk};
 
+use crate::check::check_eq;
 use crate::step::{Step, UP, message, up};
 use board::Board;
 use fabric::{Fabric, Message};
 use ring::Ring;
 use rules::{Answer, Kind, Outcome, Refusal};
-use std::process::Abort;
 use std::test::*;
 
 // There are more lines than shims, so that the bound of the one does not stand for that of the other.
@@ -69,19 +69,14 @@ impl Stand {
     }
 
     // Another stand answers to every step as this one does, and has the same on its lanes after it.
-    pub(crate) fn agrees(
-        &mut self,
-        rt: &impl Abort,
-        other: &mut Stand,
-        steps: &[Step],
-    ) -> Result<(), Fail>
+    pub(crate) fn agrees(&mut self, other: &mut Stand, steps: &[Step]) -> Result<(), Fail>
         requires { (RingLawful self.old.ring) × (RingLawful other.old.ring) }
         ensures here { RingLawful self.new.ring }
         ensures there { RingLawful other.new.ring }
     {
         for step in steps {
-            assert_eq!(rt; self.act(*step), other.act(*step));
-            self.same_lanes(rt, other, None)?;
+            check_eq(self.act(*step), other.act(*step))?;
+            self.same_lanes(other, None)?;
         }
         Ok(())
     }
@@ -89,7 +84,6 @@ impl Stand {
     // This message is alone on the lane, and another stand has the same on every other lane.
     pub(crate) fn has_alone(
         &mut self,
-        rt: &impl Abort,
         other: &mut Stand,
         lane: usize,
         msg: Message,
@@ -98,25 +92,20 @@ impl Stand {
         ensures here { RingLawful self.new.ring }
         ensures there { RingLawful other.new.ring }
     {
-        assert_eq!(rt; self.waiting(lane), 1);
-        assert_eq!(rt; self.ring.look(lane), Ok(msg));
-        self.same_lanes(rt, other, Some(lane))
+        check_eq(self.waiting(lane), 1)?;
+        check_eq(self.ring.look(lane), Ok(msg))?;
+        self.same_lanes(other, Some(lane))
     }
 
     // Another stand has the same on every lane, or on every lane but one.
-    fn same_lanes(
-        &mut self,
-        rt: &impl Abort,
-        other: &mut Stand,
-        except: Option<usize>,
-    ) -> Result<(), Fail>
+    fn same_lanes(&mut self, other: &mut Stand, except: Option<usize>) -> Result<(), Fail>
         requires { (RingLawful self.old.ring) × (RingLawful other.old.ring) }
         ensures here { RingLawful self.new.ring }
         ensures there { RingLawful other.new.ring }
     {
         for lane in 0..self.ring.lane_count() {
             if except != Some(lane) {
-                same_lane(rt, &mut self.ring, &mut other.ring, lane)?;
+                same_lane(&mut self.ring, &mut other.ring, lane)?;
             }
         }
         Ok(())
@@ -124,12 +113,11 @@ impl Stand {
 }
 
 // Both rings have as many messages on the lane, and the same first one.
-fn same_lane(rt: &impl Abort, ring: &mut Ring, other: &mut Ring, lane: usize) -> Result<(), Fail>
+fn same_lane(ring: &mut Ring, other: &mut Ring, lane: usize) -> Result<(), Fail>
     requires { (RingLawful ring.old) × (RingLawful other.old) }
     ensures here { RingLawful ring.new }
     ensures there { RingLawful other.new }
 {
-    assert_eq!(rt; ring.waiting(lane), other.waiting(lane), "{}", lane);
-    assert_eq!(rt; ring.look(lane), other.look(lane), "{}", lane);
-    Ok(())
+    check_eq(ring.waiting(lane), other.waiting(lane))?;
+    check_eq(ring.look(lane), other.look(lane))
 }

@@ -1,0 +1,11 @@
+use std::fmt::Debug;
+use std::test::*;
+
+// What was found is what is wanted.
+pub(crate) fn check_eq<T: PartialEq + Debug + Drop>(found: T, wanted: T) -> Result<(), Fail> {
+    if found == wanted {
+        Ok(())
+    } else {
+        Err(Fail::new(format_args!("found {found:?}, wanted {wanted:?}")))
+    }
+}
