@@ -112,12 +112,12 @@ impl Stand {
     }
 }
 
-// Both rings have as many messages on the lane, and the same first one.
+// Both rings have as many messages on the lane, and the same first one. The lane stands beside both, so that a failure tells it.
 fn same_lane(ring: &mut Ring, other: &mut Ring, lane: usize) -> Result<(), Fail>
     requires { (RingLawful ring.old) × (RingLawful other.old) }
     ensures here { RingLawful ring.new }
     ensures there { RingLawful other.new }
 {
-    check_eq(ring.waiting(lane), other.waiting(lane))?;
-    check_eq(ring.look(lane), other.look(lane))
+    check_eq((lane, ring.waiting(lane)), (lane, other.waiting(lane)))?;
+    check_eq((lane, ring.look(lane)), (lane, other.look(lane)))
 }

@@ -5,18 +5,18 @@ use Rattle.rules.specs.declared.kind.Kind.TheVariants.{Write, ReadRequest, Fence
 use Rattle.rules.specs.declared.strength.Strength.{Strength}
 use Rattle.rules.specs.declared.strength.Strength.TheVariants.{SeqCst}
 use Rattle.rules.specs.Kinds.{kind_number}
-use Rattle.rules.specs.Strengths.{strength_number, numbered_mark, mark_of}
+use Rattle.rules.specs.Strengths.{strength_number, mark_of_number, mark_of}
 
 -- a load of a line that the shim does not hold
 abbrev pub load_message : ℕ → ℕ → ℕ → Message
-load_message s x g = record { kind = kind_number ReadRequest; line = x; mark = numbered_mark g false; sender = s; value = 0; stamp = 0 }
+load_message s x g = record { kind = kind_number ReadRequest; line = x; mark = mark_of_number g false; sender = s; value = 0; stamp = 0 }
 
--- a store: it asks to be synchronised where the shim does not hold the line; first with a strength by its number
-abbrev pub numbered_store : ℕ → ℕ → ℕ → Bool → ℕ → Message
-numbered_store s x g held v = record { kind = kind_number Write; line = x; mark = numbered_mark g (not held); sender = s; value = v; stamp = 0 }
+-- a store: it asks to be synchronised where the shim does not hold the line. A call has its strength as a number, g
+abbrev pub store_message_of_number : ℕ → ℕ → ℕ → Bool → ℕ → Message
+store_message_of_number s x g held v = record { kind = kind_number Write; line = x; mark = mark_of_number g (not held); sender = s; value = v; stamp = 0 }
 
 abbrev pub store_message : ℕ → ℕ → Strength → Bool → ℕ → Message
-store_message shim line k held value = numbered_store shim line (strength_number k) held value
+store_message shim line k held value = store_message_of_number shim line (strength_number k) held value
 
 abbrev pub fence_message : ℕ → Message
 fence_message s = record { kind = kind_number FenceRequest; line = 0; mark = mark_of SeqCst false; sender = s; value = 0; stamp = 0 }

@@ -46,12 +46,12 @@ fitting a g = taken a (strength_of g)
 abbrev pub synchronise_mark : ℕ
 synchronise_mark = 16
 
--- a mark is a strength, plus 16 where a store asks to be synchronised; first of a strength by its number
-abbrev pub numbered_mark : ℕ → Bool → ℕ
-numbered_mark g synchronise = g + cond synchronise synchronise_mark 0
+-- a mark is the number of a strength, plus 16 where a store asks to be synchronised
+abbrev pub mark_of_number : ℕ → Bool → ℕ
+mark_of_number g synchronise = g + cond synchronise synchronise_mark 0
 
 abbrev pub mark_of : Strength → Bool → ℕ
-mark_of s synchronise = numbered_mark (strength_number s) synchronise
+mark_of s synchronise = mark_of_number (strength_number s) synchronise
 
 -- of a mark that arrives, the four lowest bits are the strength, the next asks to be synchronised, the rest are ignored
 abbrev pub mark_strength : ℕ → ℕ

@@ -14,7 +14,7 @@ use Rattle.rules.specs.Fence.{fence_checks, fence_rule}
 use Rattle.rules.specs.Load.{load_checks, load_miss, load_rule}
 use Rattle.rules.specs.Requests.{load_message, fence_message, drop_message}
 use Rattle.rules.specs.State.{up_lane, down_lane, no_copy, is_ready, is_held, is_unsettled, shim_at, wait_at, line_at, with_shim, with_wait, with_line}
-use Rattle.rules.specs.Strengths.{numbered_mark}
+use Rattle.rules.specs.Strengths.{mark_of_number}
 use Rattle.rules.specs.declared.state.Hold.{Hold}
 use Rattle.rules.specs.declared.state.Hold.TheVariants as hold
 use Rattle.rules.specs.declared.state.Shim.{Shim}
@@ -94,7 +94,7 @@ module _ {ω : Backing} (z : Size) (b : State) (φ : Model ω) (s : ℕ) (fits :
 
       split : Sender z b φ.lanes s → (h : Hold) → (line_at b s x).hold ≡ h → Follows z b φ (Load s x g) (cond (is_held h) (after (Ok (Value (line_at b s x).copy)) b φ) (load_miss ω b φ s x g))
       split by hold.NotHeld q =
-          let plain : numbered_mark g false ≡ g = omega arith in
+          let plain : mark_of_number g false ≡ g = omega arith in
           unless z b φ (Load s x g) fits (lane_full φ.lanes (up_lane s) ∷ []) _
           (λ k. record { fits = fits_shim z b fits s by.low new refl; step = miss s x g by.low (rw q) (sends z b φ.lanes s fits by (load_message s x g) (Read x g) (ap (Read x) plain) new change) })
       split by hold.Unsettled q = found (rw q) by

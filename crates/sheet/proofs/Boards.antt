@@ -11,7 +11,7 @@ use Rattle.sheet.specs.declared.line.FabricName.{FabricName}
 use Rattle.words.specs.Faults.{fault}
 use Rattle.sheet.specs.Format.{board_word}
 use Rattle.sheet.specs.Reading.{followed_by, keyword_at, line_ends, line_end, word_end, a_number, a_fabric, operand_at, operand_end, operands_at, operands_end, board_operands, board_of, board_line_at, board_at, fabric_named}
-use Rattle.sheet.proofs.Ends.{then_ok, operands_line, line_end_of_word}
+use Rattle.sheet.proofs.Ends.{followed_by_ok, operands_line, line_end_of_word}
 
 abbrev board : ℕ → ℕ → FabricName → Board
 board x y f = record { shims = x; lines = y; fabric = f }
@@ -34,7 +34,7 @@ module _ (s : List ℕ) (a x y : ℕ) (f : FabricName) where
   pub board_read : Ok x ≡ operand_at a_number s a → Ok y ≡ operand_at a_number s b → Ok f ≡ followed_by (operand_at a_fabric s c) (λ k. Ok (fabric_named k))
       → followed_by (line_ends s (operand_end s c)) (λ _. Ok (board x y f)) ≡ followed_by (operands_at board_operands s a) (λ vs. Ok (board_of vs))
   board_read first second third =
-      let three = then_ok (operand_at a_fabric s c) (λ k. Ok (fabric_named k)) f (sym third) in
+      let three = followed_by_ok (operand_at a_fabric s c) (λ k. Ok (fabric_named k)) f (sym third) in
       let k : ℕ = three.0 in
       let named : fabric_named three.0 ≡ f = cc three.2 in
       let last : Result (List ℕ) Fault = operands_at [] s (operand_end s c) in
@@ -51,8 +51,8 @@ module _ (s : List ℕ) (a x y : ℕ) (f : FabricName) where
 by_length : (s : List ℕ) (a : ℕ) (b : Board) (t : Bool) → cond t (Err (fault WordCount (length s))) (board_line_at s a) ≡ Ok b → operands_end board_operands s (word_end s a) ≡ line_end s a + 1
 by_length s a b true e = let z : ◌≡◌ {A = ℕ} 0 1 = cc in absurd (omega arith)
 by_length s a b false e =
-    let one = then_ok (keyword_at board_word s a) _ b e in
-    let two = then_ok (operands_at board_operands s (word_end s a)) _ b one.2 in
+    let one = followed_by_ok (keyword_at board_word s a) _ b e in
+    let two = followed_by_ok (operands_at board_operands s (word_end s a)) _ b one.2 in
     operands_line board_operands s (word_end s a) two.0 two.1 ∙ ap (λ n. n + 1) (line_end_of_word s a)
 
 -- a sheet begins with h where its first bytes are those of h

@@ -11,7 +11,7 @@ use Rattle.words.specs.Faults.{fault}
 use Rattle.sheet.specs.Format.{hash, a_call, op_word}
 use Rattle.sheet.specs.Lines.{told, InPlace, LineAt, call_line_at}
 use Rattle.sheet.specs.Reading.{followed_by, unless, wanted, keyword_at, word_at, word_end, line_end, operands_at, operands_end, op_operands, op_of, call_of, call_at, note_at, entry_at}
-use Rattle.sheet.proofs.Ends.{then_ok, operands_line, line_end_of_word}
+use Rattle.sheet.proofs.Ends.{followed_by_ok, operands_line, line_end_of_word}
 use Rattle.sheet.proofs.Firsts.{first_of_word}
 
 -- the first byte of the word that a call begins with
@@ -81,8 +81,8 @@ module _ (s : List ℕ) (a : ℕ) (op : Op) where
   call_after : (r : Result Line Fault) (next : ℕ) → r ≡ call_line_at op s a → IfOk r (λ _. next ≡ operands_end (op_operands op) s (word_end s a)) → IfOk r (λ _. next ≡ line_end s a + 1)
   call_after (Err f) next read after = tt
   call_after (Ok l) next read after =
-      let one = then_ok (keyword_at (op_word op) s a) _ l (sym read) in
-      let two = then_ok (operands_at (op_operands op) s (word_end s a)) _ l one.2 in
+      let one = followed_by_ok (keyword_at (op_word op) s a) _ l (sym read) in
+      let two = followed_by_ok (operands_at (op_operands op) s (word_end s a)) _ l one.2 in
       after ∙ operands_line (op_operands op) s (word_end s a) two.0 two.1 ∙ ap (λ n. n + 1) (line_end_of_word s a)
 
 -- the line of a call whose first byte is right

@@ -8,9 +8,9 @@ use Rattle.words.specs.Lengths.{line_feed, space, ends_word, ends_line, word_len
 use Rattle.words.proofs.Scan.{at_stop, goes_on}
 
 -- what went well went well step by step
-pub then_ok : {X Y : Type 0} (r : Result X Fault) (next : X → Result Y Fault) (y : Y) → followed_by r next ≡ Ok y → (x : X) × (r ≡ Ok x) × (next x ≡ Ok y)
-then_ok (Ok x) next y e = (x, refl, e)
-then_ok (Err f) next y e = let z : ◌≡◌ {A = ℕ} 0 1 = cc in absurd (omega arith)
+pub followed_by_ok : {X Y : Type 0} (r : Result X Fault) (next : X → Result Y Fault) (y : Y) → followed_by r next ≡ Ok y → (x : X) × (r ≡ Ok x) × (next x ≡ Ok y)
+followed_by_ok (Ok x) next y e = (x, refl, e)
+followed_by_ok (Err f) next y e = let z : ◌≡◌ {A = ℕ} 0 1 = cc in absurd (omega arith)
 
 -- a word has no line feed
 line_of_word : (d : List ℕ) → line_length d ≡ word_length d + line_length (drop (word_length d) d)
@@ -44,15 +44,15 @@ module _ (s : List ℕ) (a : ℕ) where
 
 pub operand_wanted : (o : Operand) (s : List ℕ) (a v : ℕ) → operand_at o s a ≡ Ok v → (wanted s a ≡ Ok tt) × (wanted s (a + 1) ≡ Ok tt)
 operand_wanted o s a v e =
-    let one = then_ok (wanted s a) _ v e in
-    let two = then_ok (wanted s (a + 1)) _ v one.2 in
+    let one = followed_by_ok (wanted s a) _ v e in
+    let two = followed_by_ok (wanted s (a + 1)) _ v one.2 in
     (one.1, two.1)
 
 pub operands_line : (os : List Operand) (s : List ℕ) (a : ℕ) (vs : List ℕ) → operands_at os s a ≡ Ok vs → operands_end os s a ≡ line_end s a + 1
-operands_line [] s a vs e = let one = then_ok (line_ends s a) _ vs e in omega (arith, line_end_here s a one.1)
+operands_line [] s a vs e = let one = followed_by_ok (line_ends s a) _ vs e in omega (arith, line_end_here s a one.1)
 operands_line (o ∷ os) s a vs e =
-    let one = then_ok (operand_at o s a) _ vs e in
-    let two = then_ok (operands_at os s (operand_end s a)) _ vs one.2 in
+    let one = followed_by_ok (operand_at o s a) _ vs e in
+    let two = followed_by_ok (operands_at os s (operand_end s a)) _ vs one.2 in
     let w = operand_wanted o s a one.0 one.1 in
     operands_line os s (operand_end s a) two.0 two.1
     ∙ ap (λ n. n + 1) (line_end_of_word s (a + 1) ∙ line_end_next s a w.0)

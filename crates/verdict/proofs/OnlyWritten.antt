@@ -7,7 +7,7 @@ use Rattle.sheet.specs.declared.line.Board.{Board}
 use Rattle.sheet.specs.Format.{Entry, header, size_limit, board_word, board_words, words_line, fabric_words, fabric_number, BoardFits}
 use Rattle.sheet.specs.Reading.{wanted, keyword_at, word_at, fabric_named, board_operands, board_of, board_line_at, opened, board_end, entries_from, reading, holds}
 use Rattle.rules.specs.Sizes.{is_size}
-use Rattle.sheet.proofs.Ends.{then_ok}
+use Rattle.sheet.proofs.Ends.{followed_by_ok}
 use Rattle.verdict.specs.Laws.{OnlyWritten}
 use Rattle.verdict.proofs.ReadLines.{Throughout, LineRead, Makes, line_read, entries_read}
 use Rattle.verdict.proofs.ReadWords.{Stands, stands_as, taken_stands}
@@ -36,8 +36,8 @@ board_written x x_Fits y y_fits k k_fits = (ap (λ n. words_line (board_word ∷
 
 board_read : (s : List ℕ) (a : ℕ) (b : Board) → board_line_at s a ≡ Ok b → LineRead board_line BoardFits s a b
 board_read s a b read =
-    let one = then_ok (keyword_at board_word s a) _ b read in
-    let two = then_ok (wanted s a) _ one.0 one.1 in
+    let one = followed_by_ok (keyword_at board_word s a) _ b read in
+    let two = followed_by_ok (wanted s a) _ one.0 one.1 in
     let name = (passed (bytes_eq (word_at s a) board_word) _ _ one.0 two.2).0 in
     line_read board_line BoardFits board_word board_operands board_of board_written s a b ((bytes_eq-Decides (word_at s a) board_word).0 name) one.2
 

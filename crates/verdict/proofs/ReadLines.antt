@@ -10,7 +10,7 @@ use Rattle.sheet.specs.declared.op.Op.{Op}
 use Rattle.sheet.specs.declared.op.Op.TheVariants.{Load, Store, Fence, Evict, Up, Down}
 use Rattle.sheet.specs.Format.{hash, words_line, Entry, a_call, a_note, entry_line, WellFormed, op_word}
 use Rattle.sheet.specs.Reading.{followed_by, wanted, line_ends, word_at, word_end, line_at, line_end, Operand, operands_at, operands_end, op_operands, op_of, call_of, call_at, note_at, entry_at, next_at, and_then, entries_from}
-use Rattle.sheet.proofs.Ends.{then_ok, wanted_within, operands_line, line_end_of_word}
+use Rattle.sheet.proofs.Ends.{followed_by_ok, wanted_within, operands_line, line_end_of_word}
 use Rattle.words.specs.Lengths.{before, word_length, line_length}
 use Rattle.verdict.proofs.ReadWords.{Stands, stands_on, stands_as, taken_stands, byte_stands, word_stops, feed_stands, operands_read}
 use Rattle.verdict.proofs.Spelling.{Fit, spelled_all, Fits}
@@ -39,7 +39,7 @@ module _ {X : Type 0} (line : X → List ℕ) (Good : X → Type 0) where
   pub line_read : (w : List ℕ) (os : List Operand) (make : List ℕ → X) → Throughout os (Makes w os make)
       → (s : List ℕ) (a : ℕ) (x : X) → word_at s a ≡ w → followed_by (operands_at os s (word_end s a)) (λ vs. Ok (make vs)) ≡ Ok x → LineRead s a x
   line_read w os make all s a x first read =
-      let one = then_ok (operands_at os s (word_end s a)) (λ vs. Ok (make vs)) x read in
+      let one = followed_by_ok (operands_at os s (word_end s a)) (λ vs. Ok (make vs)) x read in
       let is : make one.0 ≡ x = cc one.2 in
       let rest = operands_read os s (word_end s a) one.0 (word_stops s a) one.1 in
       let made = by_values os (Makes w os make) all one.0 rest.1 in
@@ -80,7 +80,7 @@ EntryRead s a e = LineRead entry_line WellFormed s a e
 module _ (s : List ℕ) (a : ℕ) where
   note_read : (e : Entry) → wanted s a ≡ Ok tt → eqb (get_or s a 0) hash ≡ true → note_at s a ≡ Ok e → EntryRead s a e
   note_read e here first read =
-      let one = then_ok (line_ends s (line_end s a)) _ e read in
+      let one = followed_by_ok (line_ends s (line_end s a)) _ e read in
       let is : a_note (line_at s a) ≡ e = cc one.2 in
       let byte = byte_stands s a hash (wanted_within s a here).0 (eqb-true (get_or s a 0) hash first) in
       subst (EntryRead s a) is (
@@ -93,7 +93,7 @@ module _ (s : List ℕ) (a : ℕ) where
   call_read e (Some op) found read = line_read entry_line WellFormed (op_word op) (op_operands op) (λ vs. a_call (call_of op vs)) (call_written op) s a e (op_found (word_at s a) op found) read
 
   entry_read : (e : Entry) → entry_at s a ≡ Ok e → EntryRead s a e
-  entry_read e read = let one = then_ok (wanted s a) _ e read in by_first (eqb (get_or s a 0) hash) one.1 refl one.2
+  entry_read e read = let one = followed_by_ok (wanted s a) _ e read in by_first (eqb (get_or s a 0) hash) one.1 refl one.2
     where
       by_first : (t : Bool) → wanted s a ≡ Ok tt → eqb (get_or s a 0) hash ≡ t → cond t (note_at s a) (call_at s a (op_of (word_at s a))) ≡ Ok e → EntryRead s a e
       by_first true here first read = note_read e here first read
@@ -111,7 +111,7 @@ module _ (s : List ℕ) (a : ℕ) (es : List Entry) (r : Result (List Entry) Fau
   by_entry : (q : Result Entry Fault) → entry_at s a ≡ q → followed_by (followed_by q (λ e. Ok (Some e))) (λ next. and_then next r) ≡ Ok es → EntriesRead s a es
   by_entry (Err f) here read = let z : ◌≡◌ {A = ℕ} 0 1 = cc in absurd (omega arith)
   by_entry (Ok e) here read =
-      let one = then_ok r (λ later. Ok (e ∷ later)) es read in
+      let one = followed_by_ok r (λ later. Ok (e ∷ later)) es read in
       let is : e ∷ one.0 ≡ es = cc one.2 in
       let entry = entry_read s a e here in
       let later = rest one.0 one.1 in

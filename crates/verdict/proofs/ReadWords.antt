@@ -9,7 +9,7 @@ use Rattle.std.specs.Str.{all_ascii_digits, bytes_eq}
 use Rattle.words.specs.declared.fault.FaultKind.{FaultKind}
 use Rattle.sheet.specs.Format.{word_of, after_word, strength_words, fabric_words}
 use Rattle.sheet.specs.Reading.{wanted, line_ends, word_at, word_end, index_of, Operand, a_number, a_strength, a_fabric, operand_of, not_an, known, operand_at, operand_end, operands_at, operands_end}
-use Rattle.sheet.proofs.Ends.{then_ok, wanted_within, ends_within}
+use Rattle.sheet.proofs.Ends.{followed_by_ok, wanted_within, ends_within}
 use Rattle.words.specs.Lengths.{space, line_feed, ends_word, before, word_length}
 use Rattle.words.specs.Numbers.{largest, plain, value_after, number_of}
 use Rattle.verdict.proofs.Spelling.{own, spelled, Fit, spelled_all, Fits}
@@ -95,8 +95,8 @@ operand_found a_fabric w v e = index_found fabric_words w v e
 -- the operand after the word that ends at place a
 operand_read : (o : Operand) (s : List ℕ) (a v : ℕ) → Stops s a → operand_at o s a ≡ Ok v → Stands s a (space ∷ spelled o v) (operand_end s a) × Fit o v
 operand_read o s a v stops e =
-    let one = then_ok (wanted s a) _ v e in
-    let two = then_ok (wanted s (a + 1)) _ v one.2 in
+    let one = followed_by_ok (wanted s a) _ v e in
+    let two = followed_by_ok (wanted s (a + 1)) _ v one.2 in
     let found = operand_found o (word_at s (a + 1)) v (known_some (not_an o) (a + 1) (operand_of o (word_at s (a + 1))) v two.2) in
     (stands_on (space_stands s a stops one.1) (stands_as found.0 refl (taken_stands (word_length (drop (a + 1) s)) s (a + 1))), found.1)
   where
@@ -107,12 +107,12 @@ operand_read o s a v stops e =
 -- the operands after it, with the end of the line
 pub operands_read : (os : List Operand) (s : List ℕ) (a : ℕ) (vs : List ℕ) → Stops s a → operands_at os s a ≡ Ok vs → Stands s a (after_word (spelled_all os vs)) (operands_end os s a) × Fits os vs
 operands_read [] s a vs stops e =
-    let one = then_ok (line_ends s a) _ vs e in
+    let one = followed_by_ok (line_ends s a) _ vs e in
     let is : [] ≡ vs = cc one.2 in
     (feed_stands s a one.1, subst (Fits []) is tt)
 operands_read (o ∷ os) s a vs stops e =
-    let one = then_ok (operand_at o s a) _ vs e in
-    let two = then_ok (operands_at os s (operand_end s a)) _ vs one.2 in
+    let one = followed_by_ok (operand_at o s a) _ vs e in
+    let two = followed_by_ok (operands_at os s (operand_end s a)) _ vs one.2 in
     let first = operand_read o s a one.0 stops one.1 in
     let rest = operands_read os s (operand_end s a) two.0 (word_stops s (a + 1)) two.1 in
     let is : one.0 ∷ two.0 ≡ vs = cc two.2 in

@@ -18,7 +18,7 @@ use Rattle.sheet.specs.Reading.{followed_by, unless, wanted, word_at, word_end, 
 use Rattle.rules.specs.Sizes.{is_size}
 use Rattle.verdict.specs.Laws.{ReadsBack}
 use Rattle.sheet.proofs.Calls.{initial}
-use Rattle.sheet.proofs.Ends.{then_ok, wanted_within}
+use Rattle.sheet.proofs.Ends.{followed_by_ok, wanted_within}
 use Rattle.verdict.proofs.Places as places
 use Rattle.verdict.proofs.Places.{Free, before_free}
 use Rattle.verdict.proofs.Spelling.{spelled, spelled_all, Fits, spelled_back, spelled_free}
@@ -214,10 +214,10 @@ entries_read : (es : List Entry) (k : ℕ) (s : List ℕ) (a : ℕ) → AllByRec
 entries_read [] k s a well enough d = none_left s a k (omega (arith, ap length d, length-drop a s))
 entries_read (e ∷ es) zero s a well enough d =
     let one = entry_read e s a (flat_map entry_line es) well.0 d in
-    absurd (omega (arith, wanted_within s a (then_ok (wanted s a) _ e one.0).1))
+    absurd (omega (arith, wanted_within s a (followed_by_ok (wanted s a) _ e one.0).1))
 entries_read (e ∷ es) (suc k) s a well enough d =
     let one = entry_read e s a (flat_map entry_line es) well.0 d in
-    let here = (wanted_within s a (then_ok (wanted s a) _ e one.0).1).0 in
+    let here = (wanted_within s a (followed_by_ok (wanted s a) _ e one.0).1).0 in
     one_more s a k e es here one.0
     (entries_read es k s (line_end s a + 1) well.1 (omega arith) (ap (λ n. drop n s) one.1 ∙ places.drop_more s (entry_line e) (flat_map entry_line es) a d))
 

@@ -1,6 +1,5 @@
-use Rattle.std.proofs.Common.{rules}
 use Rattle.cases.proofs.Computed.{cases}
 use Rattle.cases.proofs.store_frame.Goals as goal
 
-pub returns : goal.returns
-returns c = record { frame = search rules; cases = cases }
+pub returns-clause-cases : goal.returns-clause-cases
+returns-clause-cases c = cases
