@@ -1,14 +1,16 @@
 -- What the first message of a lane says of the lane.
-use Rattle.std.proofs.Common.{◌≡◌, ℕ, ◌+◌, ◌*◌, ◌<◌, Bool, true, false, eqb, leb, List, [], ◌∷◌, length, Ok, Result, refl, ap, ◌∙◌, arith}
+use Rattle.std.proofs.Common.{◌≡◌, ℕ, ◌+◌, ◌*◌, ◌<◌, Bool, true, false, eqb, leb, List, [], ◌∷◌, ◌++◌, length, Ok, Result, refl, ap, ◌∙◌, arith}
 use Rattle.std.proofs.lemmas.Bool.{eqb-true, leb-false}
 use Rattle.fabric.specs.Backing.{Backing, Model, take_on, after_take}
 use Rattle.fabric.specs.Lanes.{Lane, messages_of, take_answer, rest_of}
 use Rattle.fabric.specs.declared.fault.FabricFault.{FabricFault}
 use Rattle.fabric.specs.declared.message.Message.{Message}
 use Rattle.fabric.proofs.Answered.{take_ok}
-use Rattle.rules.specs.Checks.{message_checks, is_empty, first_message, first_on}
-use Rattle.rules.specs.Refusals.{passing}
+use Rattle.rules.specs.Checks.{After, unless_refused, message_checks, is_empty, first_message, first_on}
+use Rattle.rules.specs.Refusals.{Check, passing}
 use Rattle.rules.specs.declared.state.Size.{Size}
+use Rattle.rules.specs.declared.state.State.{State}
+use Rattle.board.proofs.Passing.{passed_by}
 
 -- the lanes are the board's, there is such a shim, and m is the first message of lane k
 pub record FirstIs (z : Size) (lanes : List Lane) (s k : ℕ) (m : Message) : Type 0 where
@@ -17,30 +19,40 @@ pub record FirstIs (z : Size) (lanes : List Lane) (s k : ℕ) (m : Message) : Ty
   pub first : first_on lanes k ≡ m
   pub messages : messages_of lanes k ≡ m ∷ rest_of (messages_of lanes k)
 
-first_held : (m : Message) (ms : List Message) → is_empty ms ≡ false → first_message ms ≡ m → ms ≡ m ∷ rest_of ms
-first_held m [] h e = let z : ◌≡◌ {A = Bool} true false = h in let q : ◌≡◌ {A = ℕ} 0 1 = cc in absurd (omega arith)
-first_held m (x ∷ xs) h e = ap (λ y. y ∷ xs) e
+pub first_held : (ms : List Message) → is_empty ms ≡ false → ms ≡ first_message ms ∷ rest_of ms
+first_held [] h = absurd cc
+first_held (m ∷ ms) h = refl
 
 pub first_is : (z : Size) (lanes : List Lane) (s k : ℕ) (m : Message) → Ok m ≡ passing (message_checks z lanes s k) (first_on lanes k) → FirstIs z lanes s k m
 first_is z lanes s k m h = go (eqb (length lanes) (2 * z.shims)) refl (leb z.shims s) refl (is_empty (messages_of lanes k)) refl
   where
     go : (t : Bool) → eqb (length lanes) (2 * z.shims) ≡ t → (u : Bool) → leb z.shims s ≡ u → (v : Bool) → is_empty (messages_of lanes k) ≡ v → FirstIs z lanes s k m
-    go false p u q v r = let k = rw p at h in let n : ◌≡◌ {A = ℕ} 0 1 = cc in absurd (omega arith)
-    go true p true q v r = let k = rw (p, q) at h in let n : ◌≡◌ {A = ℕ} 0 1 = cc in absurd (omega arith)
-    go true p false q true r = let k = rw (p, q, r) at h in let n : ◌≡◌ {A = ℕ} 0 1 = cc in absurd (omega arith)
+    go false p u q v r = let k = rw p at h in absurd cc
+    go true p true q v r = let k = rw (p, q) at h in absurd cc
+    go true p false q true r = let k = rw (p, q, r) at h in absurd cc
     go true p false q false r =
         let e : first_on lanes k ≡ m = cc (rw (p, q, r) at h) in
         record {
           lane_count = eqb-true (length lanes) (2 * z.shims) p;
           in_range = leb-false z.shims s q;
           first = e;
-          messages = first_held m (messages_of lanes k) r e;
+          messages = first_held (messages_of lanes k) r ∙ ap (λ y. y ∷ rest_of (messages_of lanes k)) e;
         }
+
+-- a rule that looks at the first message of lane k, past the tests that the message is found by
+pub past_first : {ω : Backing} (z : Size) (b : State) (φ : Model ω) (s k : ℕ) (m : Message) (tests : Message → List Check) (accepted : Message → After ω)
+    → Ok m ≡ passing (message_checks z φ.lanes s k) (first_on φ.lanes k)
+    → unless_refused b φ (message_checks z φ.lanes s k ++ tests (first_on φ.lanes k)) (accepted (first_on φ.lanes k)) ≡ unless_refused b φ (tests m) (accepted m)
+past_first z b φ s k m tests accepted found =
+    let f = first_is z φ.lanes s k m found in
+    passed_by b φ (accepted (first_on φ.lanes k)) (first_on φ.lanes k) (tests (first_on φ.lanes k)) m (message_checks z φ.lanes s k) found
+    ∙ ap (λ y. unless_refused b φ (tests y) (accepted y)) f.first
 
 -- a take from a lane whose first message was looked at
 pub took : (ω : Backing) (φ looked taken : Model ω) (z : Size) (s k : ℕ) (m : Message) (r : Result Message FabricFault)
-    → FirstIs z φ.lanes s k m → k < 2 * s + 2 → looked ≡ φ → r ≡ take_answer looked.lanes k → taken ≡ after_take ω r looked k → taken ≡ take_on ω φ k
-took ω φ looked taken z s k m r f low same q p =
+    → Ok m ≡ passing (message_checks z φ.lanes s k) (first_on φ.lanes k) → k < 2 * s + 2 → looked ≡ φ → r ≡ take_answer looked.lanes k → taken ≡ after_take ω r looked k → taken ≡ take_on ω φ k
+took ω φ looked taken z s k m r found low same q p =
+    let f = first_is z φ.lanes s k m found in
     let len = f.lane_count in
     let lt = f.in_range in
     let ok : take_answer φ.lanes k ≡ Ok m = take_ok φ.lanes k m (rest_of (messages_of φ.lanes k)) (omega arith) f.messages in

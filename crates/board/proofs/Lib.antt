@@ -1,7 +1,6 @@
 mod Deliveries
-mod Firsts
+pub mod Firsts
 mod Passing
 mod Performing
-mod Places
 mod Rooms
 mod Sends

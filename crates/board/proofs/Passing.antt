@@ -1,5 +1,5 @@
 -- A call that is tested in parts: what the parts say of the whole list of tests.
-use Rattle.std.proofs.Common.{◌≡◌, ℕ, Bool, true, false, cond, List, [], ◌∷◌, ◌++◌, Ok, Err, refl, arith}
+use Rattle.std.proofs.Common.{◌≡◌, Bool, true, false, cond, List, [], ◌∷◌, ◌++◌, Ok, Err, refl}
 use Rattle.fabric.specs.Backing.{Backing, Model}
 use Rattle.rules.specs.Checks.{After, after, unless_refused}
 use Rattle.rules.specs.Refusals.{Check}
@@ -10,7 +10,7 @@ use Rattle.rules.specs.Refusals.{passing}
 module _ {ω : Backing} (b : State) (φ : Model ω) (accepted : After ω) {A : Type 0} (a : A) (more : List Check) where
   -- a part that refuses
   pub refused_by : (e : Refusal) (cs : List Check) → Err e ≡ passing cs a → after (Err e) b φ ≡ unless_refused b φ (cs ++ more) accepted
-  refused_by e [] h = let z : ◌≡◌ {A = ℕ} 0 1 = cc in absurd (omega arith)
+  refused_by e [] h = absurd cc
   refused_by e (c ∷ cs) h = go c.fails (refused_by e cs) h
     where
       go : (t : Bool) → (Err e ≡ passing cs a → after (Err e) b φ ≡ unless_refused b φ (cs ++ more) accepted)
@@ -25,5 +25,5 @@ module _ {ω : Backing} (b : State) (φ : Model ω) (accepted : After ω) {A : T
     where
       go : (t : Bool) → (Ok x ≡ passing cs a → unless_refused b φ (cs ++ more) accepted ≡ unless_refused b φ more accepted)
           → Ok x ≡ cond t (Err c.refusal) (passing cs a) → cond t (after (Err c.refusal) b φ) (unless_refused b φ (cs ++ more) accepted) ≡ unless_refused b φ more accepted
-      go true later k = let z : ◌≡◌ {A = ℕ} 0 1 = cc in absurd (omega arith)
+      go true later k = absurd cc
       go false later k = later k

@@ -1,5 +1,5 @@
 -- Room on the lanes that are sent on, shim by shim.
-use Rattle.std.proofs.Common.{◌≡◌, ℕ, zero, suc, ◌+◌, ◌<◌, ◌≤◌, Bool, true, false, cond, ◌&&◌, ◌⊎◌, List, [], ◌∷◌, ◌++◌, is_some, Ok, Err, Option, Result, sym, refl, ◌∙◌, inl, inr, add-one, arith}
+use Rattle.std.proofs.Common.{◌≡◌, ℕ, zero, suc, ◌<◌, ◌≤◌, Bool, true, false, cond, ◌&&◌, List, [], ◌∷◌, ◌++◌, is_some, Ok, Err, Option, refl, ◌∙◌, ⊎_elim, arith}
 use Rattle.std.proofs.lemmas.Bool.{cases_lt}
 use Rattle.fabric.specs.Lanes.{Lane, is_full}
 use Rattle.fabric.specs.declared.fault.FabricFault.TheVariants.{Full}
@@ -17,11 +17,11 @@ passing_then a [] ds h = refl
 passing_then a (c ∷ cs) ds h = go c.fails (passing_then a cs ds) h
   where
     go : (t : Bool) → (passing cs a ≡ Ok a → passing (cs ++ ds) a ≡ passing ds a) → cond t (Err c.refusal) (passing cs a) ≡ Ok a → cond t (Err c.refusal) (passing (cs ++ ds) a) ≡ passing ds a
-    go true later k = let z : ◌≡◌ {A = ℕ} 0 1 = cc in absurd (omega arith)
+    go true later k = absurd cc
     go false later k = later k
 
 refusing_then : {A : Type 0} (a : A) (e : Refusal) (cs ds : List Check) → passing cs a ≡ Err e → passing (cs ++ ds) a ≡ Err e
-refusing_then a e [] ds h = let z : ◌≡◌ {A = ℕ} 0 1 = cc in absurd (omega arith)
+refusing_then a e [] ds h = absurd cc
 refusing_then a e (c ∷ cs) ds h = go c.fails (refusing_then a e cs ds) h
   where
     go : (t : Bool) → (passing cs a ≡ Err e → passing (cs ++ ds) a ≡ Err e) → cond t (Err c.refusal) (passing cs a) ≡ Err e → cond t (Err c.refusal) (passing (cs ++ ds) a) ≡ Err e
@@ -29,42 +29,23 @@ refusing_then a e (c ∷ cs) ds h = go c.fails (refusing_then a e cs ds) h
     go false later k = later k
 
 module _ (sent : ℕ → Option Message) (lanes : List Lane) where
-  abbrev blocked : ℕ → Bool
+  abbrev pub blocked : ℕ → Bool
   blocked j = is_some (sent j) && is_full lanes (down_lane j)
 
-  -- one more shim that is sent nothing, or has room
-  pub room_more : (k : ℕ) → passing (full_lanes sent lanes k) (tt {0}) ≡ Ok (tt {0}) → blocked k ≡ false → passing (full_lanes sent lanes (k + 1)) (tt {0}) ≡ Ok (tt {0})
-  room_more k h e = rw (add-one k) (passing_then (tt {0}) (full_lanes sent lanes k) _ h ∙ rw e)
+  -- where none of the first n shims is blocked, no lane is told
+  pub none_full : (n : ℕ) → ((j : ℕ) → j < n → blocked j ≡ false) → passing (full_lanes sent lanes n) (tt {0}) ≡ Ok (tt {0})
+  none_full zero clear = refl
+  none_full (suc n) clear =
+      let here = clear n (omega arith) in
+      passing_then (tt {0}) (full_lanes sent lanes n) _ (none_full n (λ j lt. clear j (omega arith))) ∙ rw here
 
   -- the first full lane is the one that is told
-  pub room_full : (n k : ℕ) → k < n → passing (full_lanes sent lanes k) (tt {0}) ≡ Ok (tt {0}) → blocked k ≡ true → passing (full_lanes sent lanes n) (tt {0}) ≡ Err (Fabric (Full (down_lane k)))
-  room_full zero k lt h e = absurd (omega arith)
-  room_full (suc n) k lt h e = go (room_full n k) (cases_lt k n)
-    where
-      go : (k < n → passing (full_lanes sent lanes k) (tt {0}) ≡ Ok (tt {0}) → blocked k ≡ true → passing (full_lanes sent lanes n) (tt {0}) ≡ Err (Fabric (Full (down_lane k))))
-          → (k < n) ⊎ (n ≤ k) → passing (full_lanes sent lanes (suc n)) (tt {0}) ≡ Err (Fabric (Full (down_lane k)))
-      go earlier (inl l) = refusing_then (tt {0}) (Fabric (Full (down_lane k))) (full_lanes sent lanes n) _ (earlier l h e)
-      go earlier (inr l) = let q : n ≡ k = omega arith in rw q (passing_then (tt {0}) (full_lanes sent lanes k) _ h ∙ rw e)
+  pub first_full : (n k : ℕ) → k < n → ((j : ℕ) → j < k → blocked j ≡ false) → blocked k ≡ true → passing (full_lanes sent lanes n) (tt {0}) ≡ Err (Fabric (Full (down_lane k)))
+  first_full zero k lt clear here = absurd (omega arith)
+  first_full (suc n) k lt clear here =
+      ⊎_elim (λ (l : k < n). refusing_then (tt {0}) (Fabric (Full (down_lane k))) (full_lanes sent lanes n) _ (first_full n k l clear here))
+      (λ (l : n ≤ k). let q : n ≡ k = omega arith in rw q (passing_then (tt {0}) (full_lanes sent lanes k) _ (none_full k clear) ∙ rw here)) (cases_lt k n)
 
-  passed_front : (n : ℕ) → passing (full_lanes sent lanes (suc n)) (tt {0}) ≡ Ok (tt {0}) → (passing (full_lanes sent lanes n) (tt {0}) ≡ Ok (tt {0})) × (blocked n ≡ false)
-  passed_front n h = front (passing (full_lanes sent lanes n) (tt {0})) refl
-    where
-      last : (t : Bool) → cond t (Err (Fabric (Full (down_lane n)))) (Ok (tt {0})) ≡ Ok (tt {0}) → t ≡ false
-      last true k = let z : ◌≡◌ {A = ℕ} 0 1 = cc in absurd (omega arith)
-      last false k = refl
-
-      front : (r : Result (Unit {0}) Refusal) → passing (full_lanes sent lanes n) (tt {0}) ≡ r → (passing (full_lanes sent lanes n) (tt {0}) ≡ Ok (tt {0})) × (blocked n ≡ false)
-      front (Ok u) q = (q, last (blocked n) (sym (passing_then (tt {0}) (full_lanes sent lanes n) _ q) ∙ h))
-      front (Err e) q = let w = sym (refusing_then (tt {0}) e (full_lanes sent lanes n) _ q) ∙ h in let z : ◌≡◌ {A = ℕ} 0 1 = cc in absurd (omega arith)
-
-  -- where no lane is told, each has room
-  pub has_room : (n : ℕ) → passing (full_lanes sent lanes n) (tt {0}) ≡ Ok (tt {0}) → HasRoom sent lanes n
-  has_room zero h j lt some = absurd (omega arith)
-  has_room (suc n) h j lt some = go (passed_front n h) (has_room n) (cases_lt j n)
-    where
-      open_lane : (t : Bool) → is_some (sent j) ≡ true → (is_some (sent j) && t) ≡ false → t ≡ false
-      open_lane t p q = rw p at q
-
-      go : (passing (full_lanes sent lanes n) (tt {0}) ≡ Ok (tt {0})) × (blocked n ≡ false) → (passing (full_lanes sent lanes n) (tt {0}) ≡ Ok (tt {0}) → HasRoom sent lanes n) → (j < n) ⊎ (n ≤ j) → is_full lanes (down_lane j) ≡ false
-      go p earlier (inl l) = earlier p.0 j l some
-      go p earlier (inr l) = let q : n ≡ j = omega arith in open_lane (is_full lanes (down_lane j)) some (rw q at p.1)
+  -- a shim that is not blocked and is sent something has room
+  pub room_for : (n : ℕ) → ((j : ℕ) → j < n → blocked j ≡ false) → HasRoom sent lanes n
+  room_for n clear j lt some = rw some at (clear j lt)

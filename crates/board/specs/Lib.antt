@@ -1,4 +1,4 @@
+pub mod Called
 pub mod Made
 pub mod Room
 pub mod Upward
-pub mod Wrapped

@@ -1,6 +1,5 @@
 ghost use Rattle.std.specs.Prelude.{◌≡◌};
-ghost use Rattle.rules.specs.Calls.{call_rule};
-ghost use Rattle.rules.specs.Checks.{after};
+ghost use Rattle.board.specs.Called.{left, called};
 
 use crate::board::Board;
 use fabric::Fabric;
@@ -9,11 +8,8 @@ use rules::{Call, Outcome};
 impl Board {
     // Makes a call on the board.
     pub fn call<F: Fabric>(&mut self, fabric: &mut F, call: Call) -> Outcome
-        requires { F.Fabric.lawful fabric.old }
-        ensures lawful { F.Fabric.lawful fabric.new }
         ensures lender { F.Fabric.lender fabric.new ≡ F.Fabric.lender fabric.old }
-        ensures size { self.new.size ≡ self.old.size }
-        ensures rule { after result self.new.state (F.Fabric.model fabric.new) ≡ call_rule F.Fabric.backing self.old.size self.old.state (F.Fabric.model fabric.old) call }
+        ensures rule { left result self.new (F.Fabric.model fabric.new) ≡ called self.old (F.Fabric.model fabric.old) call }
     {
         match call {
             Call::Load {

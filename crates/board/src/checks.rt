@@ -4,17 +4,17 @@ ghost use Rattle.rules.specs.Checks.{wrong_lanes, no_shim, no_line, message_chec
 ghost use Rattle.rules.specs.State.{is_ready, wait_at};
 
 use crate::board::Board;
+use crate::lanes::lane_count;
 use fabric::{Fabric, Message};
-use rules::{Refusal, Wait};
+use rules::Refusal;
 
 // The tests that calls share.
 impl Board {
     // The shim of that number, where the fabric's lanes are the board's.
     pub(crate) fn shim<F: Fabric>(&self, fabric: &F, shim: u32) -> Result<usize, Refusal>
-        requires { F.Fabric.lawful fabric.now }
         ensures { result ≡ passing (wrong_lanes self.now.size (F.Fabric.model fabric.now).lanes ∷ no_shim self.now.size shim ∷ []) shim }
     {
-        if fabric.lane_count() != 2 * self.size.shims {
+        if fabric.lane_count() != lane_count(self.size.shims) {
             return Err(Refusal::WrongSize);
         }
         if shim as usize >= self.size.shims {
@@ -23,14 +23,14 @@ impl Board {
         Ok(shim as usize)
     }
 
-    // The shim and the line of those numbers, where the fabric's lanes are the board's.
+    // The shim and the line of those numbers, where the fabric's lanes are the board's. Either fits a byte, so a call writes it into a message by `as u8`:
+    // `u8::try_from` would bring a refusal that never comes.
     pub(crate) fn place<F: Fabric>(
         &self,
         fabric: &F,
         shim: u32,
         line: u32,
     ) -> Result<(usize, usize), Refusal>
-        requires { F.Fabric.lawful fabric.now }
         ensures { result ≡ passing (wrong_lanes self.now.size (F.Fabric.model fabric.now).lanes ∷ no_shim self.now.size shim ∷ no_line self.now.size line ∷ []) (shim, line) }
     {
         let s = self.shim(fabric, shim)?;
@@ -48,15 +48,13 @@ impl Board {
         shim: u32,
         lane: usize,
     ) -> Result<Message, Refusal>
-        requires { (F.Fabric.lawful fabric.old) × (lane < 2 * shim + 2) }
-        ensures lawful { F.Fabric.lawful fabric.new }
+        requires { lane < 2 * shim + 2 }
         ensures lender { F.Fabric.lender fabric.new ≡ F.Fabric.lender fabric.old }
         ensures same { F.Fabric.model fabric.new ≡ F.Fabric.model fabric.old }
         ensures message { result ≡ passing (message_checks self.now.size (F.Fabric.model fabric.old).lanes shim lane) (first_on (F.Fabric.model fabric.old).lanes lane) }
     {
         self.shim(fabric, shim)?;
-        let msg = fabric.look(lane)?;
-        Ok(msg)
+        Ok(fabric.look(lane)?)
     }
 
     // Whether the shim waits for an answer.
@@ -64,9 +62,6 @@ impl Board {
         requires { shim < self.now.size.shims }
         ensures { result ≡ not (is_ready (wait_at self.now.state shim)) }
     {
-        match self.state.shims[shim].wait {
-            Wait::Ready => false,
-            Wait::Load(_) | Wait::Store(_) | Wait::Fence => true,
-        }
+        self.state.shims[shim].wait.is_some()
     }
 }

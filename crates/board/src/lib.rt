@@ -7,8 +7,10 @@ mod checks;
 mod down;
 mod evict;
 mod fence;
+mod lanes;
 mod load;
 mod make;
+mod request;
 mod store;
 mod up;
 

@@ -1,35 +1,28 @@
 ghost use Rattle.std.specs.Prelude.{◌≡◌};
-ghost use Rattle.rules.specs.Checks.{after};
-ghost use Rattle.rules.specs.Load.{load_rule};
+ghost use Rattle.rules.specs.declared.call.Call.TheVariants.{Load};
+ghost use Rattle.board.specs.Called.{left, called};
 
 use crate::board::Board;
+use crate::lanes::up_lane;
 use fabric::Fabric;
-use rules::{Access, Answer, Hold, Outcome, Refusal, Strength, Wait, load_request};
+use rules::{Access, Answer, Outcome, Refusal, Strength, Wait, load_request};
 
 impl Board {
     // A load by a shim of a line: a held line answers its copy; otherwise a request goes up, and the shim waits.
     pub fn load<F: Fabric>(&mut self, fabric: &mut F, shim: u32, line: u32, strength: u8) -> Outcome
-        requires { F.Fabric.lawful fabric.old }
-        ensures lawful { F.Fabric.lawful fabric.new }
         ensures lender { F.Fabric.lender fabric.new ≡ F.Fabric.lender fabric.old }
-        ensures size { self.new.size ≡ self.old.size }
-        ensures rule { after result self.new.state (F.Fabric.model fabric.new) ≡ load_rule F.Fabric.backing self.old.size self.old.state (F.Fabric.model fabric.old) shim line strength }
+        ensures rule { left result self.new (F.Fabric.model fabric.new) ≡ called self.old (F.Fabric.model fabric.old) (Load shim line strength) }
     {
         let (s, x) = self.place(fabric, shim, line)?;
-        let Some(strength) = Strength::fitting(Access::Load, strength) else {
-            return Err(Refusal::WrongStrength);
-        };
+        let strength = Strength::fitting(Access::Load, strength).ok_or(Refusal::WrongStrength)?;
         if self.waits(s) {
             return Err(Refusal::ShimWaits);
         }
-        let here = self.state.shims[s].lines[x];
-        match here.hold {
-            Hold::NotHeld => {
-                fabric.put(2 * s, load_request(s as u8, x as u8, strength))?;
-                self.state.shims[s].wait = Wait::Load(x as u8);
-                Ok(Answer::Waits)
-            }
-            Hold::Unsettled | Hold::Settled => Ok(Answer::Value(here.copy)),
+        if let Some(held) = self.state.shims[s].lines[x] {
+            return Ok(Answer::Value(held.copy));
         }
+        fabric.put(up_lane(s), load_request(s as u8, x as u8, strength))?;
+        self.state.shims[s].wait = Some(Wait::Load(x as u8));
+        Ok(Answer::Waits)
     }
 }

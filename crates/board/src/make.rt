@@ -4,13 +4,13 @@ ghost use Rattle.rules.specs.State.{fresh_state};
 ghost use Rattle.board.specs.Made.{made_of};
 
 use crate::board::Board;
+use crate::lanes::lane_count;
 use fabric::{Fabric, MAX_SHIMS};
-use rules::{Hold, HubLine, MAX_LINES, Refusal, Shim, ShimLine, Size, State, Wait, is_board_size};
+use rules::{HubLine, MAX_LINES, Refusal, Shim, Size, State, is_board_size};
 
 impl Board {
     // A board of so many shims and lines over a fabric.
     pub fn new<F: Fabric>(fabric: &F, shims: u32, lines: u32) -> Result<Board, Refusal>
-        requires { F.Fabric.lawful fabric.now }
         ensures { made_of result ≡ make_rule (F.Fabric.model fabric.now).lanes shims lines }
     {
         if !is_board_size(shims, lines) {
@@ -20,10 +20,11 @@ impl Board {
             shims: shims as usize,
             lines: lines as usize,
         };
-        if fabric.lane_count() != 2 * size.shims {
+        let lanes = lane_count(size.shims);
+        if fabric.lane_count() != lanes {
             return Err(Refusal::WrongSize);
         }
-        if any_waits(fabric, 2 * size.shims) {
+        if any_waits(fabric, lanes) {
             return Err(Refusal::MessageWaits);
         }
         Ok(Board {
@@ -35,18 +36,13 @@ impl Board {
 
 // Whether a message waits on one of the first lanes.
 fn any_waits<F: Fabric>(fabric: &F, lanes: usize) -> bool
-    requires { F.Fabric.lawful fabric.now }
     ensures { result ≡ any_waits (F.Fabric.model fabric.now).lanes lanes }
 {
-    for lane in 0..lanes {
-        if fabric.waiting(lane) > 0 {
-            return true;
-        }
-    }
-    false
+    (0..lanes).any(|lane| fabric.waiting(lane) > 0)
 }
 
-// The state of a board at first: all is 0, every shim is ready, and nothing is held, shared or claimed.
+// The state of a board at first: all is 0, every shim is ready, and nothing is held, shared or claimed. It is no `Default`: the state belongs to the crate
+// `rules`, and only a board begins one.
 fn fresh() -> State
     ensures { result ≡ fresh_state }
 {
@@ -55,14 +51,9 @@ fn fresh() -> State
         stamp: 0,
         sharers: [false; MAX_SHIMS],
     };
-    let line = ShimLine {
-        hold: Hold::NotHeld,
-        copy: 0,
-        stamp: 0,
-    };
     let shim = Shim {
-        wait: Wait::Ready,
-        lines: [line; MAX_LINES],
+        wait: None,
+        lines: [None; MAX_LINES],
     };
     State {
         stores: 0,

@@ -1,37 +1,30 @@
-ghost use Rattle.std.specs.Prelude.{◌≡◌, ◌<◌};
-ghost use Rattle.rules.specs.Checks.{after};
-ghost use Rattle.rules.specs.State.{is_held, stamp_limit};
-ghost use Rattle.rules.specs.Store.{line_stored, store_rule};
+ghost use Rattle.std.specs.Prelude.{◌≡◌, nat_le, if◌then◌else◌, None};
+ghost use Rattle.rules.specs.State.{stamp_limit, stamp_of};
+ghost use Rattle.rules.specs.Store.{line_stored};
+ghost use Rattle.rules.specs.declared.call.Call.TheVariants.{Store};
+ghost use Rattle.board.specs.Called.{left, called};
 
 use crate::board::Board;
+use crate::lanes::up_lane;
 use fabric::{Fabric, Word};
-use rules::{
-    Access, Answer, Hold, Outcome, Refusal, STAMP_LIMIT, ShimLine, Strength, Wait, is_sc,
-    store_request,
-};
+use rules::{Access, Answer, Held, Outcome, Refusal, STAMP_LIMIT, Strength, Wait, store_request};
 
-fn is_held(here: ShimLine) -> bool
-    ensures { result ≡ is_held here.hold }
+// What a shim holds of a line after a store to it; none where the line's stamp is at the limit.
+fn held_stored(here: Option<Held>, copy: Word) -> Option<Held>
+    ensures { result ≡ (if nat_le stamp_limit (stamp_of here) then None else line_stored here copy) }
 {
-    match here.hold {
-        Hold::NotHeld => false,
-        Hold::Unsettled | Hold::Settled => true,
-    }
-}
-
-// A shim's line after a store to it.
-fn line_stored(here: ShimLine, value: Word) -> ShimLine
-    requires { here.stamp < stamp_limit }
-    ensures { result ≡ line_stored here value }
-{
-    let (hold, stamp) = match here.hold {
-        Hold::NotHeld => (Hold::Unsettled, 1),
-        hold => (hold, here.stamp + 1),
-    };
-    ShimLine {
-        hold,
-        copy: value,
-        stamp,
+    match here {
+        None => Some(Held {
+            settled: false,
+            copy,
+            stamp: 1,
+        }),
+        Some(held) if held.stamp < STAMP_LIMIT => Some(Held {
+            copy,
+            stamp: held.stamp + 1,
+            ..held
+        }),
+        Some(_) => None,
     }
 }
 
@@ -45,31 +38,27 @@ impl Board {
         strength: u8,
         value: Word,
     ) -> Outcome
-        requires { F.Fabric.lawful fabric.old }
-        ensures lawful { F.Fabric.lawful fabric.new }
         ensures lender { F.Fabric.lender fabric.new ≡ F.Fabric.lender fabric.old }
-        ensures size { self.new.size ≡ self.old.size }
-        ensures rule { after result self.new.state (F.Fabric.model fabric.new) ≡ store_rule F.Fabric.backing self.old.size self.old.state (F.Fabric.model fabric.old) shim line strength value }
+        ensures rule { left result self.new (F.Fabric.model fabric.new) ≡ called self.old (F.Fabric.model fabric.old) (Store shim line strength value) }
     {
         let (s, x) = self.place(fabric, shim, line)?;
-        let Some(strength) = Strength::fitting(Access::Store, strength) else {
-            return Err(Refusal::WrongStrength);
-        };
+        let strength = Strength::fitting(Access::Store, strength).ok_or(Refusal::WrongStrength)?;
         if self.waits(s) {
             return Err(Refusal::ShimWaits);
         }
-        let here = self.state.shims[s].lines[x];
-        if self.state.stores >= STAMP_LIMIT || here.stamp >= STAMP_LIMIT {
+        if self.state.stores >= STAMP_LIMIT {
             return Err(Refusal::AtLimit);
         }
+        let here = self.state.shims[s].lines[x];
+        let held = held_stored(here, value).ok_or(Refusal::AtLimit)?;
         fabric.put(
-            2 * s,
-            store_request(s as u8, x as u8, strength, is_held(here), value),
+            up_lane(s),
+            store_request(s as u8, x as u8, strength, here.is_some(), value),
         )?;
         self.state.stores += 1;
-        self.state.shims[s].lines[x] = line_stored(here, value);
-        if is_sc(strength.number()) {
-            self.state.shims[s].wait = Wait::Store(x as u8);
+        self.state.shims[s].lines[x] = Some(held);
+        if strength == Strength::SeqCst {
+            self.state.shims[s].wait = Some(Wait::Store(x as u8));
             return Ok(Answer::Waits);
         }
         Ok(Answer::Done)

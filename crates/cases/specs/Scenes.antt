@@ -1,5 +1,5 @@
 -- Boards and lanes for the cases: line 0 of a small board, with one message under way.
-use Rattle.std.specs.Prelude.{ℕ, ◌*◌, true, false, replicate, slice_set}
+use Rattle.std.specs.Prelude.{ℕ, ◌*◌, true, false, Option, replicate, slice_set}
 use Rattle.fabric.specs.Backing.{Model, no_backing, put_on}
 use Rattle.fabric.specs.Lanes.{empty_lanes}
 use Rattle.fabric.specs.declared.message.Message.{Message}
@@ -8,8 +8,7 @@ use Rattle.rules.specs.Down.{down_rule}
 use Rattle.rules.specs.Kinds.{kind_number}
 use Rattle.rules.specs.State.{line_at, down_lane, with_line, with_hub, fresh_state}
 use Rattle.rules.specs.declared.kind.Kind.TheVariants.{Write, WriteAck}
-use Rattle.rules.specs.declared.state.Hold.TheVariants.{Unsettled}
-use Rattle.rules.specs.declared.state.ShimLine.{ShimLine}
+use Rattle.rules.specs.declared.state.Held.{Held}
 use Rattle.rules.specs.declared.state.Size.{Size}
 use Rattle.rules.specs.declared.state.State.{State}
 
@@ -21,9 +20,6 @@ small n = record { shims = n; lines = 1 }
 abbrev pub quiet : ℕ → Model no_backing
 quiet n = record { lanes = empty_lanes (2 * n) ring_capacity; state = tt }
 
-abbrev pub unsettled_at : ℕ → ℕ → ShimLine
-unsettled_at v t = record { hold = Unsettled; copy = v; stamp = t }
-
 -- an update of value 20, and an acknowledgement of a store that asked to be synchronised; shim 1 sends, shim 0 is sent
 abbrev pub update : ℕ → Message
 update t = record { kind = kind_number Write; line = 0; mark = 0; sender = 1; value = 20; stamp = t }
@@ -32,7 +28,7 @@ abbrev pub acknowledgement : ℕ → Message
 acknowledgement t = record { kind = kind_number WriteAck; line = 0; mark = 16; sender = 0; value = 0; stamp = t }
 
 -- line 0 of shim 0, of two, after a down that hands it the message
-abbrev pub line_after : ShimLine → Message → ShimLine
+abbrev pub line_after : Option Held → Message → Option Held
 line_after l m = line_at (down_rule no_backing (small 2) (with_line fresh_state 0 0 l) (put_on no_backing (quiet 2) (down_lane 0) m) 0).state 0 0
 
 -- a board of three shims on which shims 1 and 2 share line 0

@@ -1,6 +1,4 @@
 // What a board says at its limits.
-ghost use Rattle.ring.specs.Ring.{RingLawful};
-
 use board::Board;
 use fabric::Fabric;
 use ring::Ring;
@@ -10,17 +8,14 @@ use rules::{Outcome, Strength, store_request};
 pub(crate) fn store_to(line: u32) -> Outcome {
     let mut ring = Ring::new(1);
     let mut board = Board::new(&ring, 1, 64)?;
-    board.store(&mut ring, 0, line, Strength::Relaxed.number(), 1)
+    board.store(&mut ring, 0, line, u8::from(Strength::Relaxed), 1)
 }
 
 // So many stores to one line, each performed at the hub, and what the last of them was told.
-fn stores(board: &mut Board, ring: &mut Ring, count: u32) -> Outcome
-    requires { RingLawful ring.old }
-    ensures { RingLawful ring.new }
-{
+fn stores(board: &mut Board, ring: &mut Ring, count: u32) -> Outcome {
     let mut outcome = board.down(ring, 0);
     for value in 0..count {
-        outcome = board.store(ring, 0, 0, Strength::Relaxed.number(), value);
+        outcome = board.store(ring, 0, 0, u8::from(Strength::Relaxed), value);
         let _ = board.up(ring, 0);
         let _ = board.down(ring, 0);
     }

@@ -5,8 +5,8 @@ ghost use Rattle.std.specs.Prelude.{◌≡◌, [], ◌∷◌};
 ghost use Rattle.cases.specs.Cases.{Cases};
 
 use fabric::{FRAME_LEN, encode};
-use relay::carry_across;
 use rules::{Outcome, Strength, store_request};
+use shown::{Bytes, carried_frame};
 use std::io;
 
 mod limits;
@@ -20,29 +20,16 @@ fn store_frame() -> [u8; FRAME_LEN]
     encode(store_request(0, 0, Strength::Release, false, 7))
 }
 
-fn show(rt: &HostRuntime, name: &str, frame: &[u8]) -> io::Result<()> {
-    print!(rt; "{name}:")?;
-    for b in frame {
-        print!(rt; " {b:02x}")?;
-    }
-    println!(rt)
-}
-
 fn tell(rt: &HostRuntime, name: &str, outcome: Outcome) -> io::Result<()> {
     match outcome {
         Ok(_) => println!(rt; "{name}: good"),
-        Err(refusal) => println!(rt; "{name}: no {}", refusal.number()),
+        Err(refusal) => println!(rt; "{name}: no {}", u8::from(refusal)),
     }
 }
 
 fn main(rt: HostRuntime) -> io::Result<()> {
-    show(&rt, "store", &store_frame())?;
-    let mut bytes = [0u8; 4096];
-    let msg = store_request(0, 0, Strength::SeqCst, true, 0x01020304);
-    match carry_across(&mut bytes, msg) {
-        Ok(carried) => show(&rt, "carried", &encode(carried))?,
-        Err(fault) => println!(rt; "refused {}", fault.number())?,
-    }
+    println!(rt; "store:{}", Bytes(&store_frame()))?;
+    println!(rt; "carried:{}", Bytes(&carried_frame()))?;
     tell(&rt, "line 63 of 64", limits::store_to(63))?;
     tell(&rt, "line 64 of 64", limits::store_to(64))?;
     let [last, next, by_hand] = limits::million_stores();
@@ -53,31 +40,4 @@ fn main(rt: HostRuntime) -> io::Result<()> {
         "a store put on the lane by hand, with the hub's stamp at the limit",
         by_hand,
     )
-}
-
-#[cfg(test)]
-mod tests {
-    use super::*;
-    use fabric::Fabric;
-    use frames::Frames;
-    use std::test::Fail;
-
-    // Two frames for one shim: lane 1 is the second, and its only slot is used again after a take.
-    #[test]
-    fn one_slot_a_lane(rt: HostRuntime) -> Result<(), Fail> {
-        let mut bytes = [0; 2 * FRAME_LEN];
-        let mut frames = Frames::new(&mut bytes, 1);
-        frames.put(1, store_request(0, 0, Strength::Relaxed, true, 5))?;
-        assert!(rt;
-            frames
-                .put(1, store_request(0, 0, Strength::Relaxed, true, 6))
-                .is_err()
-        );
-        frames.take(1)?;
-        frames.put(1, store_request(0, 3, Strength::Relaxed, true, 6))?;
-        assert_eq!(rt; bytes[0], 0);
-        assert_eq!(rt; bytes[FRAME_LEN + 1], 3);
-        assert_eq!(rt; bytes[FRAME_LEN + 7], 6);
-        Ok(())
-    }
 }

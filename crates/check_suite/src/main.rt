@@ -1,9 +1,9 @@
 #![tactic(auto)]
 
-use sheet::SIZE_LIMIT;
+use sheet::{SIZE_LIMIT, read_sheet};
 use std::alloc::{AllocError, Global};
 use std::fs::File;
-use std::io::{Read, Write};
+use std::io::Write;
 use std::{env, io};
 
 // A board line and a note that goes on to the end of a sheet of `length` bytes, of which `last` is the last.
@@ -11,9 +11,7 @@ fn long_sheet(heap: Global, length: usize, last: u8) -> Result<Vec<u8>, AllocErr
     let start = b"MGL 1\nboard 2 1 ring\n#";
     let mut text = Vec::new(heap);
     text.extend_from_slice(start)?;
-    for _ in start.len() + 1..length {
-        text.push(b'.')?;
-    }
+    text.resize(length.saturating_sub(1), b'.')?;
     text.push(last)?;
     Ok(text)
 }
@@ -28,10 +26,7 @@ fn show(rt: &HostRuntime, name: &str, text: &[u8]) -> io::Result<()> {
 // Checks each sheet that the arguments name, an endless one among them, and then sheets as long as one may be and longer.
 fn main(rt: HostRuntime) -> io::Result<()> {
     for name in env::args(&rt)?.skip(1) {
-        let mut text = Vec::new(rt.alloc());
-        File::open(&rt, name.as_str())?
-            .take(SIZE_LIMIT as u64 + 1)
-            .read_to_end(&mut text)?;
+        let text = read_sheet(rt.alloc(), File::open(&rt, name.as_str())?)?;
         show(&rt, name.as_str(), &text)?;
     }
     show(

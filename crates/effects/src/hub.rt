@@ -36,18 +36,16 @@ pub fn reply(hub: HubLine, msg: Message, kind: Kind, shim: usize) -> Option<Mess
 fn shares(hub: HubLine, shim: usize) -> bool
     ensures { result ≡ shares hub shim }
 {
-    shim < MAX_SHIMS && hub.sharers[shim]
+    hub.sharers.get(shim).copied().unwrap_or(false)
 }
 
 // The acknowledgement that a store owes its sender: it carries the stamp before the store.
 fn write_ack(hub: HubLine, msg: Message) -> Option<Message>
     ensures { result ≡ sent_if (owes_ack msg.mark) (ack_message hub msg) }
 {
-    if !asks_sync(msg.mark) && !is_sc(msg.mark) {
-        return None;
-    }
-    Some(Message {
-        kind: Kind::WriteAck.number(),
+    let owed = asks_sync(msg.mark) || is_sc(msg.mark);
+    owed.then_some(Message {
+        kind: Kind::WriteAck.into(),
         line: msg.line,
         mark: msg.mark,
         sender: msg.sender,
@@ -62,7 +60,7 @@ fn update(hub: HubLine, msg: Message) -> Message
     ensures { result ≡ update_message hub msg }
 {
     Message {
-        kind: Kind::Write.number(),
+        kind: Kind::Write.into(),
         line: msg.line,
         mark: mark_strength(msg.mark),
         sender: msg.sender,
@@ -76,7 +74,7 @@ fn read_response(hub: HubLine, msg: Message) -> Message
     ensures { result ≡ read_message hub msg }
 {
     Message {
-        kind: Kind::ReadResponse.number(),
+        kind: Kind::ReadResponse.into(),
         line: msg.line,
         mark: msg.mark,
         sender: msg.sender,
@@ -90,7 +88,7 @@ fn fence_message(kind: Kind, msg: Message) -> Message
     ensures { result ≡ fenced_message kind msg }
 {
     Message {
-        kind: kind.number(),
+        kind: kind.into(),
         line: 0,
         mark: Strength::SeqCst.mark(false),
         sender: msg.sender,
@@ -126,7 +124,8 @@ pub fn performed(hub: HubLine, msg: Message, kind: Kind) -> HubLine
     }
 }
 
-// The sharers, with one of them in or out.
+// The sharers, with one of them in or out. By index: after a write through `get_mut` the proof lacks what the other entries are.
+#[tactic(auto, using(std::proofs::lemmas::List::set_past))]
 fn with_sharer(sharers: [bool; MAX_SHIMS], shim: usize, shares: bool) -> [bool; MAX_SHIMS]
     ensures { result ≡ slice_set sharers shim shares }
 {

@@ -1,34 +1,19 @@
 -- A message and its frame are each given by the other.
-use Rattle.std.proofs.Common.{◌≡◌, ℕ, zero, suc, ◌+◌, ◌*◌, ◌/◌, ◌%◌, ◌^◌, ◌<◌, ◌≤◌, List, [], ◌∷◌, ◌++◌, length, get_or, take, drop, sym, refl, ap, ◌∙◌, subst, pow-suc, add-one, arith, length-drop, take-append-drop}
-use Rattle.std.proofs.lemmas.Int.Digits.{number_push, number_more}
+use Rattle.std.proofs.Common.{◌≡◌, ℕ, zero, suc, ◌+◌, ◌*◌, ◌/◌, ◌%◌, ◌<◌, ◌≤◌, List, [], ◌∷◌, ◌++◌, length, get_or, take, drop, sym, refl, ap, ◌∙◌, subst, add-one, arith, length-drop, take-append-drop}
+use Rattle.std.proofs.lemmas.Int.Digits.{number_more}
 use Rattle.std.proofs.lemmas.List.{take_more, take_all, get_or-drop}
-use Rattle.fabric.specs.declared.message.Message.{Message}
 use Rattle.fabric.specs.Frame.{big_endian, number_in, frame_of, message_of, frame_bytes, word_bytes, stamp_bytes}
-
--- a number that fits into bytes is the number that those bytes write
-pub number_of_bytes : (width n : ℕ) → n < 256 ^ width → number_in (big_endian width n) ≡ n
-number_of_bytes zero n h = omega arith
-number_of_bytes (suc w) n h =
-    number_push 256 (big_endian w (n / 256)) (n % 256)
-    ∙ ap (λ m. m * 256 + n % 256) (number_of_bytes w (n / 256) (omega (arith, pow-suc 256 w)))
-    ∙ omega arith
 
 -- bytes are those of the number that they write
 bytes_of_number : (width : ℕ) (bs : List ℕ) → width ≤ length bs → ((i : ℕ) → get_or bs i 0 < 256) → big_endian width (number_in (take width bs)) ≡ take width bs
 bytes_of_number zero bs h small = refl
 bytes_of_number (suc w) bs h small =
-    let byte : ℕ = get_or bs w 0 in
-    let before : ℕ = number_in (take w bs) in
     let n : number_in (take (suc w) bs) ≡ number_in (take w bs) * 256 + get_or bs w 0 = subst (λ i. number_in (take i bs) ≡ number_in (take w bs) * 256 + get_or bs w 0) (add-one w) (number_more 256 bs w (omega arith)) in
     let high : number_in (take (suc w) bs) / 256 ≡ number_in (take w bs) = omega (arith, small w) in
     let low : number_in (take (suc w) bs) % 256 ≡ get_or bs w 0 = omega (arith, small w) in
     (λ i. big_endian w (high i) ++ low i ∷ [])
     ∙ ap (λ l. l ++ get_or bs w 0 ∷ []) (bytes_of_number w bs (omega arith) small)
     ∙ sym (subst (λ i. take i bs ≡ take w bs ++ get_or bs w 0 ∷ []) (add-one w) (take_more bs w 0 (omega arith)))
-
--- the message of a message's frame is that message
-pub message_back : (m : Message) → number_in (big_endian word_bytes m.value) ≡ m.value → number_in (big_endian stamp_bytes m.stamp) ≡ m.stamp → message_of (frame_of m) ≡ m
-message_back m value stamp = λ i. record { kind = m.kind; line = m.line; mark = m.mark; sender = m.sender; value = value i; stamp = stamp i }
 
 -- the frame of a frame's message is that frame
 pub frame_back : (frame : List ℕ) → length frame ≡ frame_bytes → ((i : ℕ) → get_or frame i 0 < 256) → frame_of (message_of frame) ≡ frame
@@ -45,19 +30,3 @@ frame_back (a ∷ b ∷ c ∷ d ∷ rest) e small =
     bytes_of_number stamp_bytes (drop word_bytes rest) (omega arith) (λ i. subst (λ n. n < 256) (sym (get_or-drop word_bytes rest i 0)) (each (word_bytes + i))) in
     let end : take stamp_bytes (drop word_bytes rest) ≡ drop word_bytes rest = take_all stamp_bytes (drop word_bytes rest) (omega arith) in
     ap (λ l. a ∷ b ∷ c ∷ d ∷ l) ((λ i. word i ++ (stamp ∙ end) i) ∙ take-append-drop word_bytes rest)
-
--- the library spells out each byte of a number of 32 bits
-pub to_bytes_32 : (n : ℕ) → ◌≡◌ {A = List ℕ} ((n / 16777216 % 256) ∷ (n / 65536 % 256) ∷ (n / 256 % 256) ∷ (n % 256) ∷ []) (big_endian 4 n)
-to_bytes_32 n =
-    let first : n / 16777216 % 256 ≡ n / 256 / 256 / 256 % 256 = omega arith in
-    let second : n / 65536 % 256 ≡ n / 256 / 256 % 256 = omega arith in
-    λ i. first i ∷ second i ∷ (n / 256 % 256) ∷ (n % 256) ∷ []
-
--- and each place of one that four bytes write
-pub from_bytes_32 : (bs : List ℕ) → length bs ≡ 4 → get_or bs 0 0 * 16777216 + get_or bs 1 0 * 65536 + get_or bs 2 0 * 256 + get_or bs 3 0 ≡ number_in bs
-from_bytes_32 [] e = absurd (omega arith)
-from_bytes_32 (a ∷ []) e = absurd (omega arith)
-from_bytes_32 (a ∷ b ∷ []) e = absurd (omega arith)
-from_bytes_32 (a ∷ b ∷ c ∷ []) e = absurd (omega arith)
-from_bytes_32 (a ∷ b ∷ c ∷ d ∷ []) e = omega arith
-from_bytes_32 (a ∷ b ∷ c ∷ d ∷ x ∷ rest) e = absurd (omega arith)

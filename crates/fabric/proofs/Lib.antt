@@ -3,5 +3,4 @@ pub mod Backing
 pub mod Changes
 pub mod FrameBytes
 pub mod Queue
-pub mod QueueCalls
 pub mod Tables

@@ -20,54 +20,42 @@ pub trait Fabric {
     // The meaning: the lanes, and the state of what lies behind them.
     ghost model: { Self → Model backing };
 
-    // The states that making gives and every call keeps.
-    ghost lawful: { Self → Type 0 };
-
     // The references that it holds, by their ghost names: whoever lent a buffer knows it again after a call.
     ghost lender: { Self → List ℕ };
 
-    // A lawful fabric keeps the bounds on lanes, capacities and messages.
-    ghost sound: { (s : Self) → lawful s → Sound (model s).lanes };
+    // Every fabric keeps the bounds on lanes, capacities and messages.
+    ghost sound: { (s : Self) → Sound (model s).lanes };
 
     // Its lanes have one capacity.
-    ghost level: { (s : Self) → lawful s → Level (model s).lanes };
+    ghost level: { (s : Self) → Level (model s).lanes };
 
     // The message joins the lane at its end.
     fn put(&mut self, lane: usize, msg: Message) -> Result<(), FabricFault>
-        requires { lawful self.old }
-        ensures lawful { lawful self.new }
         ensures lender { lender self.new ≡ lender self.old }
         ensures answer { result ≡ put_answer (model self.old).lanes lane }
         ensures after { model self.new ≡ after_put backing result (model self.old) lane msg };
 
     // Removes the first message of the lane.
     fn take(&mut self, lane: usize) -> Result<Message, FabricFault>
-        requires { lawful self.old }
-        ensures lawful { lawful self.new }
         ensures lender { lender self.new ≡ lender self.old }
         ensures answer { result ≡ take_answer (model self.old).lanes lane }
         ensures after { model self.new ≡ after_take backing result (model self.old) lane };
 
     // The first message of the lane. A fabric may fetch while it looks, so it is lent to change.
     fn look(&mut self, lane: usize) -> Result<Message, FabricFault>
-        requires { lawful self.old }
-        ensures lawful { lawful self.new }
         ensures lender { lender self.new ≡ lender self.old }
         ensures answer { result ≡ take_answer (model self.old).lanes lane }
         ensures same { model self.new ≡ model self.old };
 
     // How many lanes there are.
     fn lane_count(&self) -> usize
-        requires { lawful self.now }
         ensures { result ≡ length (model self.now).lanes };
 
     // How many messages the lane can hold; 0 where there is no such lane.
     fn capacity(&self, lane: usize) -> usize
-        requires { lawful self.now }
         ensures { result ≡ capacity_of (model self.now).lanes lane };
 
     // How many messages the lane holds; 0 where there is no such lane.
     fn waiting(&self, lane: usize) -> usize
-        requires { lawful self.now }
         ensures { result ≡ length (messages_of (model self.now).lanes lane) };
 }

@@ -12,18 +12,20 @@ pub enum FabricFault {
     Empty(usize),
 }
 
-impl FabricFault {
-    // The number of the refusal.
-    pub fn number(self) -> u8
-        ensures { result ≡ fault_number self }
-    {
-        match self {
+// The number of the refusal.
+impl From<FabricFault> for u8 {
+    ghost from_gives = { λ fault number. number ≡ fault_number fault };
+
+    fn from(fault: FabricFault) -> u8 {
+        match fault {
             FabricFault::NoLane(_) => 21,
             FabricFault::Full(_) => 22,
             FabricFault::Empty(_) => 23,
         }
     }
+}
 
+impl FabricFault {
     // The lane that was named.
     pub fn lane(self) -> usize
         ensures { result ≡ fault_lane self }

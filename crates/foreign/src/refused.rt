@@ -1,6 +1,4 @@
 // A foreign message is refused, and nothing changes.
-ghost use Rattle.ring.specs.Ring.{RingLawful};
-
 use crate::check::check_eq;
 use crate::stand::Stand;
 use crate::step::*;
@@ -10,16 +8,18 @@ use std::test::*;
 
 // On a board after these steps, shim 1's up refuses the message as foreign.
 pub(crate) fn refused_up(steps: &[Step], msg: Message) -> Result<(), Fail> {
-    let mut stand = Stand::after(steps)?;
-    let mut twin = Stand::after(steps)?;
-    refused(&mut stand, &mut twin, up(1), UP, msg)
+    refused_after(steps, up(1), UP, msg)
 }
 
 // On a board after these steps, shim 1's down refuses the message as foreign.
 pub(crate) fn refused_down(steps: &[Step], msg: Message) -> Result<(), Fail> {
+    refused_after(steps, down(1), DOWN, msg)
+}
+
+fn refused_after(steps: &[Step], call: Step, lane: usize, msg: Message) -> Result<(), Fail> {
     let mut stand = Stand::after(steps)?;
     let mut twin = Stand::after(steps)?;
-    refused(&mut stand, &mut twin, down(1), DOWN, msg)
+    refused(&mut stand, &mut twin, call, lane, msg)
 }
 
 // The call refuses the message as foreign, which a hand put on its lane. The message stays there, every other lane is as on the twin,
@@ -30,12 +30,10 @@ pub(crate) fn refused(
     call: Step,
     lane: usize,
     msg: Message,
-) -> Result<(), Fail>
-    requires { (RingLawful stand.old.ring) × (RingLawful twin.old.ring) }
-{
+) -> Result<(), Fail> {
     stand.act(Step::Put(lane, msg))?;
     let foreign = Refusal::Foreign(lane);
-    check_eq(foreign.number(), 12)?;
+    check_eq(u8::from(foreign), 12)?;
     check_eq(stand.act(call), Err(foreign))?;
     stand.has_alone(twin, lane, msg)?;
     stand.act(Step::Take(lane))?;
@@ -43,9 +41,7 @@ pub(crate) fn refused(
 }
 
 // Both stands answer alike to all that comes: first to what is under way, then to every kind of call on every line.
-fn same_later(stand: &mut Stand, twin: &mut Stand) -> Result<(), Fail>
-    requires { (RingLawful stand.old.ring) × (RingLawful twin.old.ring) }
-{
+fn same_later(stand: &mut Stand, twin: &mut Stand) -> Result<(), Fail> {
     stand.agrees(
         twin,
         &[up(1), up(1), down(1), down(1), up(0), down(0), down(0)],

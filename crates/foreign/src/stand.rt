@@ -1,6 +1,3 @@
-ghost use Rattle.ring.specs.Ring.{RingLawful};
-ghost use Rattle.std.specs.Prelude.{IfOk};
-
 use crate::check::check_eq;
 use crate::step::{Step, UP, message, up};
 use board::Board;
@@ -23,9 +20,7 @@ pub(crate) struct Stand {
 
 impl Stand {
     // A stand on which these steps were done, and none of them refused.
-    pub(crate) fn after(steps: &[Step]) -> Result<Stand, Refusal>
-        ensures { IfOk result (λ stand. RingLawful stand.ring) }
-    {
+    pub(crate) fn after(steps: &[Step]) -> Result<Stand, Refusal> {
         let ring = Ring::new(SHIMS as usize);
         let board = Board::new(&ring, SHIMS, LINES)?;
         let mut stand = Stand { board, ring };
@@ -35,10 +30,7 @@ impl Stand {
         Ok(stand)
     }
 
-    pub(crate) fn act(&mut self, step: Step) -> Outcome
-        requires { RingLawful self.old.ring }
-        ensures { RingLawful self.new.ring }
-    {
+    pub(crate) fn act(&mut self, step: Step) -> Outcome {
         match step {
             Step::Make(call) => return self.board.call(&mut self.ring, call),
             Step::Put(lane, msg) => self.ring.put(lane, msg)?,
@@ -50,10 +42,7 @@ impl Stand {
     }
 
     // A hand stores to line 0 at the hub so many times.
-    pub(crate) fn stored(&mut self, times: u32) -> Result<(), Refusal>
-        requires { RingLawful self.old.ring }
-        ensures { RingLawful self.new.ring }
-    {
+    pub(crate) fn stored(&mut self, times: u32) -> Result<(), Refusal> {
         for _ in 0..times {
             self.act(Step::Put(UP, message(Kind::Write)))?;
             self.act(up(1))?;
@@ -62,18 +51,12 @@ impl Stand {
     }
 
     // How many messages the lane holds.
-    pub(crate) fn waiting(&self, lane: usize) -> usize
-        requires { RingLawful self.now.ring }
-    {
+    pub(crate) fn waiting(&self, lane: usize) -> usize {
         self.ring.waiting(lane)
     }
 
     // Another stand answers to every step as this one does, and has the same on its lanes after it.
-    pub(crate) fn agrees(&mut self, other: &mut Stand, steps: &[Step]) -> Result<(), Fail>
-        requires { (RingLawful self.old.ring) × (RingLawful other.old.ring) }
-        ensures here { RingLawful self.new.ring }
-        ensures there { RingLawful other.new.ring }
-    {
+    pub(crate) fn agrees(&mut self, other: &mut Stand, steps: &[Step]) -> Result<(), Fail> {
         for step in steps {
             check_eq(self.act(*step), other.act(*step))?;
             self.same_lanes(other, None)?;
@@ -87,22 +70,14 @@ impl Stand {
         other: &mut Stand,
         lane: usize,
         msg: Message,
-    ) -> Result<(), Fail>
-        requires { (RingLawful self.old.ring) × (RingLawful other.old.ring) }
-        ensures here { RingLawful self.new.ring }
-        ensures there { RingLawful other.new.ring }
-    {
+    ) -> Result<(), Fail> {
         check_eq(self.waiting(lane), 1)?;
         check_eq(self.ring.look(lane), Ok(msg))?;
         self.same_lanes(other, Some(lane))
     }
 
     // Another stand has the same on every lane, or on every lane but one.
-    fn same_lanes(&mut self, other: &mut Stand, except: Option<usize>) -> Result<(), Fail>
-        requires { (RingLawful self.old.ring) × (RingLawful other.old.ring) }
-        ensures here { RingLawful self.new.ring }
-        ensures there { RingLawful other.new.ring }
-    {
+    fn same_lanes(&mut self, other: &mut Stand, except: Option<usize>) -> Result<(), Fail> {
         for lane in 0..self.ring.lane_count() {
             if except != Some(lane) {
                 same_lane(&mut self.ring, &mut other.ring, lane)?;
@@ -113,11 +88,7 @@ impl Stand {
 }
 
 // Both rings have as many messages on the lane, and the same first one. The lane stands beside both, so that a failure tells it.
-fn same_lane(ring: &mut Ring, other: &mut Ring, lane: usize) -> Result<(), Fail>
-    requires { (RingLawful ring.old) × (RingLawful other.old) }
-    ensures here { RingLawful ring.new }
-    ensures there { RingLawful other.new }
-{
+fn same_lane(ring: &mut Ring, other: &mut Ring, lane: usize) -> Result<(), Fail> {
     check_eq((lane, ring.waiting(lane)), (lane, other.waiting(lane)))?;
     check_eq((lane, ring.look(lane)), (lane, other.look(lane)))
 }

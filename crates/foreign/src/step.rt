@@ -21,7 +21,7 @@ pub(crate) fn load(shim: u32, line: u32) -> Step {
     Step::Make(Call::Load {
         shim,
         line,
-        strength: Strength::Relaxed.number(),
+        strength: u8::from(Strength::Relaxed),
     })
 }
 
@@ -39,7 +39,7 @@ fn store_with(strength: Strength, shim: u32, line: u32, value: u32) -> Step {
     Step::Make(Call::Store {
         shim,
         line,
-        strength: strength.number(),
+        strength: u8::from(strength),
         value,
     })
 }
@@ -47,7 +47,7 @@ fn store_with(strength: Strength, shim: u32, line: u32, value: u32) -> Step {
 pub(crate) fn fence(shim: u32) -> Step {
     Step::Make(Call::Fence {
         shim,
-        strength: Strength::SeqCst.number(),
+        strength: u8::from(Strength::SeqCst),
     })
 }
 
@@ -66,7 +66,7 @@ pub(crate) fn down(shim: u32) -> Step {
 // A message of this kind on line 0 from shim 1, of stamp 1. A test names only the field that it is about.
 pub(crate) fn message(kind: Kind) -> Message {
     Message {
-        kind: kind.number(),
+        kind: u8::from(kind),
         line: 0,
         mark: 0,
         sender: 1,

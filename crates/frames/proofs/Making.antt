@@ -1,18 +1,21 @@
 -- A fabric just made over a buffer.
-use Rattle.std.proofs.Common.{◌≡◌, ℕ, ◌*◌, ◌/◌, ◌≤◌, true, false, ◌&&◌, leb, List, [], length, replicate, sym, ◌∙◌, subst, ⊎_elim, mul-le-mul_right, div-add-mod', arith}
+use Rattle.std.proofs.Common.{◌≡◌, ℕ, ◌*◌, ◌/◌, ◌≤◌, true, false, ◌&&◌, leb, List, [], length, replicate, sym, refl, ◌∙◌, subst, ⊎_elim, mul-le-mul_right, div-add-mod', arith}
 use native.Mathlib.Nat.{min-le_left, min-le_right}
 use Rattle.std.proofs.lemmas.Bool.{cases_Bool, and_parts, leb-true, cond-true, cond-false}
 use Rattle.fabric.specs.Frame.{frame_bytes}
 use Rattle.fabric.specs.Lanes.{shim_limit, lane_limit, capacity_limit, empty_lanes}
-use Rattle.fabric.specs.Queue.{queue_lanes}
-use Rattle.fabric.proofs.QueueCalls.{new_lawful, new_lanes}
-use Rattle.frames.specs.Check.{serves, capacity_for, sizes_for}
-use Rattle.frames.specs.Frames.{BufferLawful, lanes_over, queues_in}
+use Rattle.queues.specs.declared.rows.Rows.{Rows}
+use Rattle.queues.specs.Rows.{RowsLawful, new_rows, firsts, row_lanes}
+use Rattle.queues.proofs.Calls.{new_lawful, new_lanes}
+use Rattle.frames.specs.Check.{serves, capacity_for, rows_for}
+use Rattle.frames.specs.Buffer.{frames_room, message_in}
+use Rattle.frames.specs.Frames.{lanes_over}
 
--- a fabric of so many lanes and such a capacity is lawful, and has the lanes that making gives
-pub record Made (bs : List ℕ) (n : ℕ) (sizes : ℕ × ℕ) : Type 0 where
-  pub lawful : BufferLawful (queues_in sizes.0 sizes.1 (replicate lane_limit 0) (replicate lane_limit 0) bs) bs
-  pub lanes : queue_lanes (queues_in sizes.0 sizes.1 (replicate lane_limit 0) (replicate lane_limit 0) bs) ≡ lanes_over (length bs) n
+-- such rows lie in the bytes, and have the lanes that making gives
+pub record Made (bs : List ℕ) (n : ℕ) (r : Rows) : Type 0 where
+  pub lawful : RowsLawful r (frames_room bs)
+  pub lanes : row_lanes r (message_in bs) ≡ lanes_over (length bs) n
+  pub begin : firsts r ≡ replicate lane_limit 0
 
 module _ (bs : List ℕ) (n : ℕ) where
   abbrev len : ℕ
@@ -21,7 +24,7 @@ module _ (bs : List ℕ) (n : ℕ) where
   abbrev c : ℕ
   c = capacity_for (length bs) n
 
-  good : serves (length bs) n ≡ true → Made bs n (2 * n, capacity_for (length bs) n)
+  good : serves (length bs) n ≡ true → Made bs n (new_rows (2 * n) (capacity_for (length bs) n))
   good t =
       let p = and_parts (leb 1 n && leb n shim_limit) (leb 1 (capacity_for len n)) t in
       let q = and_parts (leb 1 n) (leb n shim_limit) p.0 in
@@ -31,20 +34,22 @@ module _ (bs : List ℕ) (n : ℕ) where
       let part : capacity_for len n * (2 * frame_bytes * n) ≤ len / (2 * frame_bytes * n) * (2 * frame_bytes * n) = mul-le-mul_right (2 * frame_bytes * n) (min-le_left (len / (2 * frame_bytes * n)) capacity_limit) in
       let whole : len / (2 * frame_bytes * n) * (2 * frame_bytes * n) ≤ len = omega (arith, div-add-mod' len (2 * frame_bytes * n)) in
       record {
-        lawful = record { queues = new_lawful _ (2 * n) c (omega arith) (λ _. one) most; bytes_enough = omega (arith, part, whole) };
-        lanes = new_lanes _ (2 * n) c ∙ sym (cond-true (serves len n) (empty_lanes (2 * n) c) [] t);
+        lawful = new_lawful (2 * n) c (frames_room bs) (record { lane_bound = omega arith; capacity_least = λ _. one; capacity_most = most; all_in = omega (arith, part, whole) });
+        lanes = new_lanes (2 * n) c (message_in bs) (omega arith) ∙ sym (cond-true (serves len n) (empty_lanes (2 * n) c) [] t);
+        begin = refl;
       }
 
-  none : serves (length bs) n ≡ false → Made bs n (0, 0)
+  none : serves (length bs) n ≡ false → Made bs n (new_rows 0 0)
   none f =
       record {
-        lawful = record { queues = new_lawful _ 0 0 (omega arith) (λ h. absurd (omega arith)) (omega arith); bytes_enough = omega arith };
+        lawful = new_lawful 0 0 (frames_room bs) (record { lane_bound = omega arith; capacity_least = λ h. absurd (omega arith); capacity_most = omega arith; all_in = omega arith });
         lanes = sym (cond-false (serves len n) (empty_lanes (2 * n) c) [] f);
+        begin = refl;
       }
 
-  pub made : Made bs n (sizes_for (length bs) n)
-  made =
-      ⊎_elim
-      (λ t. subst (λ p. Made bs n p) (sym (cond-true (serves len n) (2 * n, c) (0, 0) t)) (good t))
-      (λ f. subst (λ p. Made bs n p) (sym (cond-false (serves len n) (2 * n, c) (0, 0) f)) (none f))
-      (cases_Bool (serves len n))
+  -- what a check of the length makes
+  pub made : (r : Rows) → r ≡ rows_for (length bs) n → Made bs n r
+  made r e = subst (λ q. Made bs n q) (sym e) (⊎_elim
+      (λ t. subst (λ q. Made bs n q) (sym (cond-true (serves len n) (new_rows (2 * n) c) (new_rows 0 0) t)) (good t))
+      (λ f. subst (λ q. Made bs n q) (sym (cond-false (serves len n) (new_rows (2 * n) c) (new_rows 0 0) f)) (none f))
+      (cases_Bool (serves len n)))

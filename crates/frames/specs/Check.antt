@@ -2,6 +2,8 @@
 use Rattle.std.specs.Prelude.{ℕ, ◌*◌, ◌/◌, min, Bool, cond, ◌&&◌, Ok, Err, Result, nat_le}
 use Rattle.fabric.specs.Frame.{frame_bytes}
 use Rattle.fabric.specs.Lanes.{shim_limit, capacity_limit}
+use Rattle.queues.specs.declared.rows.Rows.{Rows}
+use Rattle.queues.specs.Rows.{new_rows}
 use Rattle.frames.specs.declared.check.FramesFault.{FramesFault}
 
 -- the number of the refusal
@@ -20,6 +22,6 @@ serves len shims = (nat_le 1 shims && nat_le shims shim_limit) && nat_le 1 (capa
 abbrev pub check_answer : ℕ → ℕ → Result ℕ FramesFault
 check_answer len shims = cond (serves len shims) (Ok (capacity_for len shims)) (Err (record {}))
 
--- how many lanes are made in `len` bytes, and their capacity
-abbrev pub sizes_for : ℕ → ℕ → ℕ × ℕ
-sizes_for len shims = cond (serves len shims) (2 * shims, capacity_for len shims) (0, 0)
+-- the lanes made in `len` bytes: none where these cannot serve
+abbrev pub rows_for : ℕ → ℕ → Rows
+rows_for len shims = cond (serves len shims) (new_rows (2 * shims) (capacity_for len shims)) (new_rows 0 0)

@@ -1,3 +1,3 @@
+pub mod Buffer
 pub mod Check
 pub mod Frames
-pub mod Sound

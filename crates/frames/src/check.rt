@@ -1,17 +1,18 @@
 ghost use Rattle.std.specs.Prelude.{◌≡◌};
-ghost use Rattle.frames.specs.Check.{check_answer, fault_number, sizes_for};
+ghost use Rattle.frames.specs.Check.{check_answer, fault_number, rows_for};
 
 use fabric::{FRAME_LEN, MAX_CAPACITY, MAX_SHIMS};
+use queues::Rows;
 
 // A buffer cannot serve: no shims or too many, or too few bytes for one message a lane.
 #[derive(Clone, Copy, PartialEq, Eq, Debug)]
 pub struct FramesFault;
 
-impl FramesFault {
-    // The number of the refusal.
-    pub fn number(self) -> u8
-        ensures { result ≡ fault_number self }
-    {
+// The number of the refusal.
+impl From<FramesFault> for u8 {
+    ghost from_gives = { λ fault number. number ≡ fault_number fault };
+
+    fn from(_fault: FramesFault) -> u8 {
         24
     }
 }
@@ -30,12 +31,12 @@ pub fn check_buffer(len: usize, shims: usize) -> Result<usize, FramesFault>
     Ok(capacity)
 }
 
-// How many lanes are made in a buffer of `len` bytes, and their capacity: none where the check refuses.
-pub(crate) fn made_sizes(len: usize, shims: usize) -> (usize, usize)
-    ensures { result ≡ sizes_for len shims }
+// The lanes made in a buffer of `len` bytes: none where the check refuses.
+pub(crate) fn made_rows(len: usize, shims: usize) -> Rows
+    ensures { result ≡ rows_for len shims }
 {
     match check_buffer(len, shims) {
-        Ok(capacity) => (2 * shims, capacity),
-        Err(_) => (0, 0),
+        Ok(capacity) => Rows::new(2 * shims, capacity),
+        Err(_) => Rows::new(0, 0),
     }
 }

@@ -1,123 +1,72 @@
-ghost use Rattle.std.specs.Prelude.{◌≡◌, ◌+◌, ◌%◌, ◌<◌, ◌≤◌, true, [], ◌∷◌, length, is_ok, if◌then◌else◌, slice_index};
+ghost use Rattle.std.specs.Prelude.{◌≡◌, ◌+◌, ◌/◌, ◌≤◌, [], ◌∷◌, length, refl};
 ghost use Rattle.fabric.specs.Frame.{frame_of, message_of, frame_bytes};
-ghost use Rattle.fabric.specs.Lanes.{capacity_of, messages_of, put_answer, take_answer};
-ghost use Rattle.fabric.specs.Backing.{put_on, take_on};
-ghost use Rattle.fabric.specs.Queue.{HasSpace, HasMessage};
-ghost use Rattle.frames.specs.Frames.{buffer_backing, frames_model, frames_queues, FramesLawful, frame_at, slot_place, made_over, overwritten};
-ghost use Rattle.frames.specs.Sound.{frames_sound, frames_level};
+ghost use Rattle.queues.specs.Rows.{RowsLawful};
+ghost use Rattle.queues.specs.Sound.{rows_sound, rows_level};
+ghost use Rattle.frames.specs.Buffer.{buffer_backing, frames_room, message_in, overwritten};
 
-use crate::check::made_sizes;
-use fabric::{FRAME_LEN, Fabric, FabricFault, MAX_LANES, Message, decode, encode};
+use crate::check::made_rows;
+use fabric::{FRAME_LEN, Fabric, FabricFault, Message, decode, encode};
+use queues::{Rows, Slots, Span};
 
-// A fabric in a byte buffer that the caller hands in: each slot is one frame, each lane `capacity` slots in a row.
+// A fabric in a byte buffer that the caller hands in: slot i is the frame that begins at byte FRAME_LEN * i.
 #[derive(Drop)]
 pub struct Frames<'a> {
-    lanes: usize,
-    capacity: usize,
-    // For each lane, the first slot in use and how many messages wait.
-    first: [usize; MAX_LANES],
-    count: [usize; MAX_LANES],
+    rows: Rows,
     bytes: &'a mut [u8],
+    ghost lawful: { RowsLawful rows (frames_room bytes.now) },
 }
 
 impl<'a> Frames<'a> {
+    ghost use Rattle.frames.specs.Frames.{frames_model, made_over};
+
     // A fabric in `bytes`, with no lanes where `check_buffer` refuses. No byte is written.
     pub fn new(bytes: &'a mut [u8], shims: usize) -> Frames<'a>
-        ensures lawful { FramesLawful result }
         ensures lender { result.bytes.ghost_name ≡ bytes.entry.ghost_name }
         ensures model { frames_model result ≡ made_over bytes.old shims }
     {
-        let (lanes, capacity) = made_sizes(bytes.len(), shims);
-        Frames {
-            lanes,
-            capacity,
-            first: [0; MAX_LANES],
-            count: [0; MAX_LANES],
-            bytes,
-        }
+        let rows = made_rows(bytes.len(), shims);
+        Frames { rows, bytes }
+    }
+}
+
+impl<'a> Slots for Frames<'a> {
+    ghost backing = { buffer_backing };
+
+    ghost rows = { λ f. f.rows };
+
+    ghost room = { λ f. frames_room f.bytes.now };
+
+    ghost held = { λ f. message_in f.bytes.now };
+
+    ghost state = { λ f first. record { bytes = f.bytes.now; first = first } };
+
+    ghost lender = { λ f. f.bytes.ghost_name ∷ [] };
+
+    ghost lawful = { λ f. f.lawful };
+
+    ghost takes = { λ _ _ _ _. refl };
+
+    fn rows(&self) -> &Rows {
+        &self.rows
     }
 
-    // The byte at which a slot of a lane begins; after the last slot comes slot 0.
-    fn place(&self, lane: usize, slot: usize) -> usize
-        requires { (FramesLawful self.now) × (lane < self.now.lanes) }
-        ensures place { result ≡ slot_place self.now.capacity lane (slot % self.now.capacity) }
-        ensures fits { result + frame_bytes ≤ length self.now.bytes.now }
-    {
-        FRAME_LEN * (self.capacity * lane + slot % self.capacity)
+    fn lane_len(&self) -> usize {
+        self.rows.capacity
     }
 
-    // The message whose frame begins at byte `at`.
-    fn message_at(&self, at: usize) -> Message
-        requires { at + frame_bytes ≤ length self.now.bytes.now }
-        ensures { result ≡ message_of (frame_at self.now.bytes.now at) }
-    {
+    fn set_span(&mut self, lane: usize, span: Span) {
+        self.rows.spans[lane] = span;
+    }
+
+    fn read(&self, slot: usize) -> Message {
+        let at = FRAME_LEN * slot;
         let mut frame = [0; FRAME_LEN];
         frame.copy_from_slice(&self.bytes[at..at + FRAME_LEN]);
         decode(&frame)
     }
 
-    // Is there such a lane? What is asked of one that does not exist is 0.
-    fn has_lane(&self, lane: usize) -> bool
-        requires { FramesLawful self.now }
-        ensures capacity { (if result then self.now.capacity else 0) ≡ capacity_of (frames_model self.now).lanes lane }
-        ensures waiting { (if result then slice_index self.now.count lane else 0) ≡ length (messages_of (frames_model self.now).lanes lane) }
-        ensures within { result ≡ true → lane < self.now.lanes }
-    {
-        lane < self.lanes
-    }
-
-    // Refuses as put does.
-    fn check_put(&self, lane: usize) -> Result<(), FabricFault>
-        requires { FramesLawful self.now }
-        ensures answer { result ≡ put_answer (frames_model self.now).lanes lane }
-        ensures space { is_ok result ≡ true → HasSpace (frames_queues self.now) lane }
-    {
-        if lane >= self.lanes {
-            return Err(FabricFault::NoLane(lane));
-        }
-        if self.count[lane] >= self.capacity {
-            return Err(FabricFault::Full(lane));
-        }
-        Ok(())
-    }
-
-    // Writes the slot after those in use.
-    fn append(&mut self, lane: usize, msg: Message)
-        requires { (FramesLawful self.old) × (HasSpace (frames_queues self.old) lane) }
-        ensures lawful { FramesLawful self.new }
-        ensures lender { self.new.bytes.ghost_name ≡ self.old.bytes.ghost_name }
-        ensures after { frames_model self.new ≡ put_on buffer_backing (frames_model self.old) lane msg }
-    {
-        let waiting = self.count[lane];
-        let at = self.place(lane, self.first[lane] + waiting);
-        write_frame(self.bytes, at, msg);
-        self.count[lane] = waiting + 1;
-    }
-
-    // The first message of a lane; refuses as take does.
-    fn first_message(&self, lane: usize) -> Result<Message, FabricFault>
-        requires { FramesLawful self.now }
-        ensures answer { result ≡ take_answer (frames_model self.now).lanes lane }
-        ensures waits { is_ok result ≡ true → HasMessage (frames_queues self.now) lane }
-    {
-        if lane >= self.lanes {
-            return Err(FabricFault::NoLane(lane));
-        }
-        if self.count[lane] == 0 {
-            return Err(FabricFault::Empty(lane));
-        }
-        Ok(self.message_at(self.place(lane, self.first[lane])))
-    }
-
-    // Moves the first slot in use on, and writes no byte.
-    fn advance(&mut self, lane: usize)
-        requires { (FramesLawful self.old) × (HasMessage (frames_queues self.old) lane) }
-        ensures lawful { FramesLawful self.new }
-        ensures lender { self.new.bytes.ghost_name ≡ self.old.bytes.ghost_name }
-        ensures after { frames_model self.new ≡ take_on buffer_backing (frames_model self.old) lane }
-    {
-        self.first[lane] = (self.first[lane] + 1) % self.capacity;
-        self.count[lane] = self.count[lane] - 1;
+    fn write(&mut self, slot: usize, msg: Message) {
+        write_frame(self.bytes, FRAME_LEN * slot, msg);
     }
 }
 
@@ -131,51 +80,39 @@ fn write_frame(bytes: &mut [u8], at: usize, msg: Message)
 }
 
 impl<'a> Fabric for Frames<'a> {
+    ghost use Rattle.frames.specs.Frames.{frames_model};
+
     ghost backing = { buffer_backing };
 
     ghost model = { frames_model };
 
-    ghost lawful = { FramesLawful };
+    ghost lender = { λ f. f.bytes.ghost_name ∷ [] };
 
-    ghost lender = { λ s. s.bytes.ghost_name ∷ [] };
+    ghost sound = { λ f. rows_sound f.rows (frames_room f.bytes.now) (message_in f.bytes.now) f.lawful };
 
-    ghost sound = { frames_sound };
-
-    ghost level = { frames_level };
+    ghost level = { λ f. rows_level f.rows (frames_room f.bytes.now) (message_in f.bytes.now) f.lawful };
 
     fn put(&mut self, lane: usize, msg: Message) -> Result<(), FabricFault> {
-        self.check_put(lane)?;
-        self.append(lane, msg);
-        Ok(())
+        queues::put(self, lane, msg)
     }
 
     fn take(&mut self, lane: usize) -> Result<Message, FabricFault> {
-        let msg = self.first_message(lane)?;
-        self.advance(lane);
-        Ok(msg)
+        queues::take(self, lane)
     }
 
     fn look(&mut self, lane: usize) -> Result<Message, FabricFault> {
-        self.first_message(lane)
+        queues::look(self, lane)
     }
 
     fn lane_count(&self) -> usize {
-        self.lanes
+        queues::lane_count(self)
     }
 
     fn capacity(&self, lane: usize) -> usize {
-        if self.has_lane(lane) {
-            self.capacity
-        } else {
-            0
-        }
+        queues::capacity(self, lane)
     }
 
     fn waiting(&self, lane: usize) -> usize {
-        if self.has_lane(lane) {
-            self.count[lane]
-        } else {
-            0
-        }
+        queues::waiting(self, lane)
     }
 }

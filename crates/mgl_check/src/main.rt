@@ -1,16 +1,11 @@
 #![tactic(auto)]
 
-use sheet::SIZE_LIMIT;
 use std::io;
-use std::io::{Read, Write};
+use std::io::Write;
 
-// Checks the sheet on standard input and prints the verdict. One byte more than a sheet may have is read, so that a
-// longer one, however long, is told apart.
+// Checks the sheet on standard input and prints the verdict.
 fn main(rt: HostRuntime) -> io::Result<()> {
-    let mut text = Vec::new(rt.alloc());
-    rt.stdin()
-        .take(SIZE_LIMIT as u64 + 1)
-        .read_to_end(&mut text)?;
+    let text = sheet::read_sheet(rt.alloc(), rt.stdin())?;
     let line = verdict::report(rt.alloc(), &text)?;
     rt.stdout().write_all(&line)
 }

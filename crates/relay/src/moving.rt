@@ -5,8 +5,6 @@ use fabric::{Fabric, FabricFault};
 
 // Moves the first message of one lane to the end of another, over any fabric.
 pub fn move_first<F: Fabric>(fabric: &mut F, from: usize, to: usize) -> Result<(), FabricFault>
-    requires { F.Fabric.lawful fabric.old }
-    ensures lawful { F.Fabric.lawful fabric.new }
     ensures lender { F.Fabric.lender fabric.new ≡ F.Fabric.lender fabric.old }
     ensures answer { result ≡ move_answer (F.Fabric.model fabric.old).lanes from to }
     ensures after { F.Fabric.model fabric.new ≡ after_move F.Fabric.backing result (F.Fabric.model fabric.old) from to }

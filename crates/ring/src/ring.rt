@@ -1,11 +1,11 @@
-ghost use Rattle.std.specs.Prelude.{◌≡◌, ◌<◌, true, [], length, is_ok, if◌then◌else◌, slice_index};
-ghost use Rattle.fabric.specs.Lanes.{capacity_of, messages_of, put_answer, take_answer};
-ghost use Rattle.fabric.specs.Backing.{no_backing, put_on, take_on};
-ghost use Rattle.fabric.specs.Queue.{HasSpace, HasMessage};
-ghost use Rattle.ring.specs.Ring.{ring_model, ring_queues, RingLawful, made_ring, ring_capacity};
-ghost use Rattle.ring.specs.Sound.{ring_sound, ring_level};
+ghost use Rattle.std.specs.Prelude.{◌≡◌, [], length, refl};
+ghost use Rattle.fabric.specs.Backing.{no_backing};
+ghost use Rattle.queues.specs.Rows.{RowsLawful};
+ghost use Rattle.queues.specs.Sound.{rows_sound, rows_level};
+ghost use Rattle.ring.specs.Table.{ring_capacity, lanes_for, message_in};
 
 use fabric::{Fabric, FabricFault, MAX_LANES, MAX_SHIMS, Message};
+use queues::{Rows, Slots, Span};
 
 // How many messages each lane of a ring can hold.
 pub const RING_CAPACITY: usize = 16;
@@ -21,139 +21,108 @@ const BLANK: Message = Message {
     stamp: 0,
 };
 
-// A fabric in a table of its own: lane k has the slots from RING_CAPACITY * k on.
+// A fabric in a table of its own.
 #[derive(Drop)]
 pub struct Ring {
-    lanes: usize,
-    // For each lane, the first slot in use and how many messages wait.
-    first: [usize; MAX_LANES],
-    count: [usize; MAX_LANES],
+    rows: Rows,
     slots: [Message; SLOTS],
+    ghost lawful: { RowsLawful rows (length slots) },
+    ghost capacity: { rows.capacity ≡ ring_capacity },
 }
 
 impl Ring {
+    ghost use Rattle.ring.specs.Ring.{ring_model, made_ring};
+
     // A ring for 1 to 8 shims; for another number it has no lanes.
     pub fn new(shims: usize) -> Ring
-        ensures lawful { RingLawful result }
         ensures model { ring_model result ≡ made_ring shims }
     {
-        let lanes = if shims <= MAX_SHIMS { 2 * shims } else { 0 };
         Ring {
-            lanes,
-            first: [0; MAX_LANES],
-            count: [0; MAX_LANES],
+            rows: Rows::new(lanes_for(shims), RING_CAPACITY),
             slots: [BLANK; SLOTS],
         }
     }
+}
 
-    // Is there such a lane? What is asked of one that does not exist is 0.
-    fn has_lane(&self, lane: usize) -> bool
-        requires { RingLawful self.now }
-        ensures capacity { (if result then ring_capacity else 0) ≡ capacity_of (ring_model self.now).lanes lane }
-        ensures waiting { (if result then slice_index self.now.count lane else 0) ≡ length (messages_of (ring_model self.now).lanes lane) }
-        ensures within { result ≡ true → lane < self.now.lanes }
-    {
-        lane < self.lanes
+// Two lanes a shim, and none for more shims than a fabric serves.
+fn lanes_for(shims: usize) -> usize
+    ensures { result ≡ lanes_for shims }
+{
+    if shims <= MAX_SHIMS { 2 * shims } else { 0 }
+}
+
+impl Slots for Ring {
+    ghost backing = { no_backing };
+
+    ghost rows = { λ r. r.rows };
+
+    ghost room = { λ r. length r.slots };
+
+    ghost held = { λ r. message_in r.slots };
+
+    ghost state = { λ _ _. tt };
+
+    ghost lender = { λ _. [] };
+
+    ghost lawful = { λ r. r.lawful };
+
+    ghost takes = { λ _ _ _ _. refl };
+
+    fn rows(&self) -> &Rows {
+        &self.rows
     }
 
-    // Refuses as put does.
-    fn check_put(&self, lane: usize) -> Result<(), FabricFault>
-        requires { RingLawful self.now }
-        ensures answer { result ≡ put_answer (ring_model self.now).lanes lane }
-        ensures space { is_ok result ≡ true → HasSpace (ring_queues self.now) lane }
-    {
-        if lane >= self.lanes {
-            return Err(FabricFault::NoLane(lane));
-        }
-        if self.count[lane] >= RING_CAPACITY {
-            return Err(FabricFault::Full(lane));
-        }
-        Ok(())
+    fn lane_len(&self) -> usize {
+        RING_CAPACITY
     }
 
-    // Writes the slot after those in use.
-    fn append(&mut self, lane: usize, msg: Message)
-        requires { (RingLawful self.old) × (HasSpace (ring_queues self.old) lane) }
-        ensures lawful { RingLawful self.new }
-        ensures after { ring_model self.new ≡ put_on no_backing (ring_model self.old) lane msg }
-    {
-        let waiting = self.count[lane];
-        self.slots[RING_CAPACITY * lane + (self.first[lane] + waiting) % RING_CAPACITY] = msg;
-        self.count[lane] = waiting + 1;
+    fn set_span(&mut self, lane: usize, span: Span) {
+        self.rows.spans[lane] = span;
     }
 
-    // The first message of a lane; refuses as take does.
-    fn first_message(&self, lane: usize) -> Result<Message, FabricFault>
-        requires { RingLawful self.now }
-        ensures answer { result ≡ take_answer (ring_model self.now).lanes lane }
-        ensures waits { is_ok result ≡ true → HasMessage (ring_queues self.now) lane }
-    {
-        if lane >= self.lanes {
-            return Err(FabricFault::NoLane(lane));
-        }
-        if self.count[lane] == 0 {
-            return Err(FabricFault::Empty(lane));
-        }
-        Ok(self.slots[RING_CAPACITY * lane + self.first[lane] % RING_CAPACITY])
+    fn read(&self, slot: usize) -> Message {
+        self.slots[slot]
     }
 
-    // Moves the first slot in use on.
-    fn advance(&mut self, lane: usize)
-        requires { (RingLawful self.old) × (HasMessage (ring_queues self.old) lane) }
-        ensures lawful { RingLawful self.new }
-        ensures after { ring_model self.new ≡ take_on no_backing (ring_model self.old) lane }
-    {
-        self.first[lane] = (self.first[lane] + 1) % RING_CAPACITY;
-        self.count[lane] = self.count[lane] - 1;
+    fn write(&mut self, slot: usize, msg: Message) {
+        self.slots[slot] = msg;
     }
 }
 
 impl Fabric for Ring {
+    ghost use Rattle.ring.specs.Ring.{ring_model};
+
     ghost backing = { no_backing };
 
     ghost model = { ring_model };
 
-    ghost lawful = { RingLawful };
-
     ghost lender = { λ _. [] };
 
-    ghost sound = { ring_sound };
+    ghost sound = { λ r. rows_sound r.rows (length r.slots) (message_in r.slots) r.lawful };
 
-    ghost level = { ring_level };
+    ghost level = { λ r. rows_level r.rows (length r.slots) (message_in r.slots) r.lawful };
 
     fn put(&mut self, lane: usize, msg: Message) -> Result<(), FabricFault> {
-        self.check_put(lane)?;
-        self.append(lane, msg);
-        Ok(())
+        queues::put(self, lane, msg)
     }
 
     fn take(&mut self, lane: usize) -> Result<Message, FabricFault> {
-        let msg = self.first_message(lane)?;
-        self.advance(lane);
-        Ok(msg)
+        queues::take(self, lane)
     }
 
     fn look(&mut self, lane: usize) -> Result<Message, FabricFault> {
-        self.first_message(lane)
+        queues::look(self, lane)
     }
 
     fn lane_count(&self) -> usize {
-        self.lanes
+        queues::lane_count(self)
     }
 
     fn capacity(&self, lane: usize) -> usize {
-        if self.has_lane(lane) {
-            RING_CAPACITY
-        } else {
-            0
-        }
+        queues::capacity(self, lane)
     }
 
     fn waiting(&self, lane: usize) -> usize {
-        if self.has_lane(lane) {
-            self.count[lane]
-        } else {
-            0
-        }
+        queues::waiting(self, lane)
     }
 }

@@ -11,7 +11,7 @@ use Rattle.rules.specs.declared.state.Size.{Size}
 use Rattle.rules.specs.declared.state.State.{State}
 use Rattle.rules.specs.declared.strength.Access.{Access}
 use Rattle.rules.specs.Refusals.{Check, refuse_if}
-use Rattle.rules.specs.State.{stamp_limit, wait_at, line_at, is_ready, is_held, is_unsettled}
+use Rattle.rules.specs.State.{stamp_limit, wait_at, line_at, is_ready, is_held, is_unsettled, stamp_of}
 use Rattle.rules.specs.Strengths.{fitting}
 
 -- what a call leaves: what the board says, the board's state, the fabric
@@ -50,15 +50,15 @@ shim_waits b s = refuse_if (not (is_ready (wait_at b s))) ShimWaits
 
 -- 7
 abbrev pub not_held : State → ℕ → ℕ → Check
-not_held b s x = refuse_if (not (is_held (line_at b s x).hold)) NotHeld
+not_held b s x = refuse_if (not (is_held (line_at b s x))) NotHeld
 
 -- 8
 abbrev pub line_unsettled : State → ℕ → ℕ → Check
-line_unsettled b s x = refuse_if (is_unsettled (line_at b s x).hold) Unsettled
+line_unsettled b s x = refuse_if (is_unsettled (line_at b s x)) Unsettled
 
 -- 9: the number of stores, or the line's stamp at the shim, is at the limit
 abbrev pub at_limit : State → ℕ → ℕ → Check
-at_limit b s x = refuse_if (nat_le stamp_limit b.stores || nat_le stamp_limit (line_at b s x).stamp) AtLimit
+at_limit b s x = refuse_if (nat_le stamp_limit b.stores || nat_le stamp_limit (stamp_of (line_at b s x))) AtLimit
 
 -- 10: the lane to be sent on is full
 abbrev pub lane_full : List Lane → ℕ → Check

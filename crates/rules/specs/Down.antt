@@ -1,5 +1,5 @@
 -- The rule of a down: the first message of a shim's down lane is handed to the shim.
-use Rattle.std.specs.Prelude.{ℕ, ◌+◌, Bool, true, false, cond, not, ◌&&◌, ◌||◌, List, [], ◌∷◌, ◌++◌, is_some, Ok, ◌==◌, nat_le, nat_lt}
+use Rattle.std.specs.Prelude.{ℕ, ◌+◌, Bool, true, false, cond, not, ◌&&◌, ◌||◌, List, [], ◌∷◌, ◌++◌, is_some, Some, None, Ok, Option, ◌==◌, nat_le, nat_lt}
 use Rattle.fabric.specs.Backing.{Backing, Model, take_on}
 use Rattle.fabric.specs.Lanes.{Lane}
 use Rattle.fabric.specs.declared.message.Message.{Message}
@@ -7,9 +7,7 @@ use Rattle.rules.specs.declared.answer.Answer.{Answer}
 use Rattle.rules.specs.declared.answer.Answer.TheVariants.{Value, Ended, Handled}
 use Rattle.rules.specs.declared.kind.Kind.{Kind}
 use Rattle.rules.specs.declared.kind.Kind.TheVariants.{Write, ReadRequest, ReadResponse, FenceRequest, FenceResponse, WriteAck, Drop}
-use Rattle.rules.specs.declared.state.Hold.{Hold}
-use Rattle.rules.specs.declared.state.Hold.TheVariants.{NotHeld, Unsettled, Settled}
-use Rattle.rules.specs.declared.state.ShimLine.{ShimLine}
+use Rattle.rules.specs.declared.state.Held.{Held}
 use Rattle.rules.specs.declared.state.Size.{Size}
 use Rattle.rules.specs.declared.state.State.{State}
 use Rattle.rules.specs.declared.state.Wait.{Wait}
@@ -17,43 +15,45 @@ use Rattle.rules.specs.declared.state.Wait.TheVariants as wait
 use Rattle.rules.specs.Checks.{After, after, unless_refused, message_checks, foreign_on, first_on}
 use Rattle.rules.specs.Kinds.{kind_of, kind_at}
 use Rattle.rules.specs.Refusals.{Check}
-use Rattle.rules.specs.State.{stamp_limit, down_lane, wait_at, line_at, is_unsettled, is_settled, settled_at, with_wait, with_line}
+use Rattle.rules.specs.State.{stamp_limit, down_lane, wait_at, line_at, is_unsettled, is_settled, copy_of, stamp_of, settled_at, with_wait, with_line}
 use Rattle.rules.specs.Strengths.{is_sc, asks_sync}
 
 -- does the shim wait for a load of line x; for a store to line x; for a fence, which has line 0
-abbrev pub awaits_load : Wait → ℕ → Bool
-awaits_load wait.Ready x = false
-awaits_load (wait.Load y) x = y == x
-awaits_load (wait.Store y) x = false
-awaits_load wait.Fence x = false
+abbrev pub awaits_load : Option Wait → ℕ → Bool
+awaits_load None x = false
+awaits_load (Some (wait.Load y)) x = y == x
+awaits_load (Some (wait.Store y)) x = false
+awaits_load (Some wait.Fence) x = false
 
-abbrev pub awaits_store : Wait → ℕ → Bool
-awaits_store wait.Ready x = false
-awaits_store (wait.Load y) x = false
-awaits_store (wait.Store y) x = y == x
-awaits_store wait.Fence x = false
+abbrev pub awaits_store : Option Wait → ℕ → Bool
+awaits_store None x = false
+awaits_store (Some (wait.Load y)) x = false
+awaits_store (Some (wait.Store y)) x = y == x
+awaits_store (Some wait.Fence) x = false
 
-abbrev pub awaits_fence : Wait → ℕ → Bool
-awaits_fence wait.Ready x = false
-awaits_fence (wait.Load y) x = false
-awaits_fence (wait.Store y) x = false
-awaits_fence wait.Fence x = x == 0
+abbrev pub awaits_fence : Option Wait → ℕ → Bool
+awaits_fence None x = false
+awaits_fence (Some (wait.Load y)) x = false
+awaits_fence (Some (wait.Store y)) x = false
+awaits_fence (Some wait.Fence) x = x == 0
 
 -- WHAT BECOMES OF THE SHIM'S LINE
 
 -- an update: on a settled line a greater stamp replaces copy and stamp, otherwise the copy stays and its stamp rises by one;
 -- on any other line nothing happens
-abbrev pub line_updated : Hold → ShimLine → Message → ShimLine
-line_updated NotHeld l m = l
-line_updated Unsettled l m = l
-line_updated Settled l m = cond (nat_lt l.stamp m.stamp) (settled_at m.value m.stamp) (settled_at l.copy (l.stamp + 1))
+abbrev pub held_updated : Held → Message → Option Held
+held_updated h m = cond (nat_lt h.stamp m.stamp) (settled_at m.value m.stamp) (settled_at h.copy (h.stamp + 1))
+
+abbrev pub line_updated : Option Held → Message → Option Held
+line_updated None m = None
+line_updated (Some h) m = cond h.settled (held_updated h m) (Some h)
 
 -- an acknowledgement: where the store asked to be synchronised, the message's stamp is added, and the line is settled
-abbrev pub line_acknowledged : ShimLine → Message → ShimLine
-line_acknowledged l m = cond (asks_sync m.mark) (settled_at l.copy (l.stamp + m.stamp)) l
+abbrev pub line_acknowledged : Option Held → Message → Option Held
+line_acknowledged l m = cond (asks_sync m.mark) (settled_at (copy_of l) (stamp_of l + m.stamp)) l
 
-abbrev pub line_by : ShimLine → Message → Kind → ShimLine
-line_by l m Write = line_updated l.hold l m
+abbrev pub line_by : Option Held → Message → Kind → Option Held
+line_by l m Write = line_updated l m
 line_by l m ReadRequest = l
 line_by l m ReadResponse = settled_at m.value m.stamp
 line_by l m FenceRequest = l
@@ -89,18 +89,18 @@ abbrev pub over_limit : ℕ → Bool
 over_limit t = nat_lt stamp_limit t
 
 -- an update with stamp 0, or one that would leave a settled line with a stamp above the limit
-abbrev pub foreign_update : ShimLine → Message → Bool
-foreign_update l m = m.stamp == 0 || is_settled l.hold && over_limit (line_updated l.hold l m).stamp
+abbrev pub foreign_update : Option Held → Message → Bool
+foreign_update l m = m.stamp == 0 || is_settled l && over_limit (stamp_of (line_updated l m))
 
 -- an acknowledgement of nothing; of a store that asked to be synchronised, where the line is not unsettled or the sum of the stamps is
 -- above the limit; of an SC store that is not waited for
-abbrev pub foreign_ack : Wait → ShimLine → Message → Bool
+abbrev pub foreign_ack : Option Wait → Option Held → Message → Bool
 foreign_ack w l m =
     not (asks_sync m.mark || is_sc m.mark)
-    || (asks_sync m.mark && (not (is_unsettled l.hold) || over_limit (l.stamp + m.stamp))
+    || (asks_sync m.mark && (not (is_unsettled l) || over_limit (stamp_of l + m.stamp))
     || is_sc m.mark && not (awaits_store w m.line))
 
-abbrev pub foreign_kind : Wait → ShimLine → Message → Kind → Bool
+abbrev pub foreign_kind : Option Wait → Option Held → Message → Kind → Bool
 foreign_kind w l m Write = foreign_update l m
 foreign_kind w l m ReadRequest = true
 foreign_kind w l m ReadResponse = not (awaits_load w m.line)
@@ -110,7 +110,7 @@ foreign_kind w l m WriteAck = foreign_ack w l m
 foreign_kind w l m Drop = true
 
 -- is m foreign to a shim that waits for w and has l at the line of m
-abbrev pub foreign_to : Wait → ShimLine → Message → Bool
+abbrev pub foreign_to : Option Wait → Option Held → Message → Bool
 foreign_to w l m = not (is_some (kind_of m.kind)) || (over_limit m.stamp || foreign_kind w l m (kind_at m))
 
 -- is m, on the down lane of shim s, foreign
@@ -126,7 +126,7 @@ down_checks z b lanes s m = message_checks z lanes s (down_lane s) ++ (foreign_o
 abbrev pub handed : (ω : Backing) → State → Model ω → ℕ → Message → After ω
 handed ω b φ s m =
     after (Ok (answer_by m (kind_at m)))
-    (with_line (with_wait b s (cond (ends m (kind_at m)) wait.Ready (wait_at b s))) s m.line (line_by (line_at b s m.line) m (kind_at m)))
+    (with_line (with_wait b s (cond (ends m (kind_at m)) None (wait_at b s))) s m.line (line_by (line_at b s m.line) m (kind_at m)))
     (take_on ω φ (down_lane s))
 
 abbrev pub down_rule : (ω : Backing) → Size → State → Model ω → ℕ → After ω

@@ -1,5 +1,5 @@
 -- The rule of a fence: a request goes up, and the shim waits.
-use Rattle.std.specs.Prelude.{ℕ, List, [], ◌∷◌, Ok}
+use Rattle.std.specs.Prelude.{ℕ, List, [], ◌∷◌, Some, Ok}
 use Rattle.fabric.specs.Backing.{Backing, Model, put_on}
 use Rattle.fabric.specs.Lanes.{Lane}
 use Rattle.rules.specs.declared.answer.Answer.TheVariants.{Waits}
@@ -19,4 +19,4 @@ fence_checks z b lanes s g = wrong_lanes z lanes ∷ no_shim z s ∷ wrong_stren
 abbrev pub fence_rule : (ω : Backing) → Size → State → Model ω → ℕ → ℕ → After ω
 fence_rule ω z b φ s g =
     unless_refused b φ (fence_checks z b φ.lanes s g)
-    (after (Ok Waits) (with_wait b s wait.Fence) (put_on ω φ (up_lane s) (fence_message s)))
+    (after (Ok Waits) (with_wait b s (Some wait.Fence)) (put_on ω φ (up_lane s) (fence_message s)))

@@ -1,9 +1,10 @@
 -- The number of each kind of message.
-use Rattle.std.specs.Prelude.{ℕ, cond, Some, None, Option, ◌==◌}
+use Rattle.std.specs.Prelude.{ℕ, ◌≡◌, cond, Some, None, Option, Result, MatchResult, ◌==◌}
 use Rattle.std.specs.Option.{unwrap_or}
 use Rattle.fabric.specs.declared.message.Message.{Message}
 use Rattle.rules.specs.declared.kind.Kind.{Kind}
 use Rattle.rules.specs.declared.kind.Kind.TheVariants.{Write, ReadRequest, ReadResponse, FenceRequest, FenceResponse, WriteAck, Drop}
+use Rattle.rules.specs.declared.kind.UnknownKind.{UnknownKind}
 
 abbrev pub kind_number : Kind → ℕ
 kind_number Write = 1
@@ -24,6 +25,10 @@ kind_of k =
     (cond (k == kind_number FenceResponse) (Some FenceResponse)
     (cond (k == kind_number WriteAck) (Some WriteAck)
     (cond (k == kind_number Drop) (Some Drop) None))))))
+
+-- the kind of a number, or an error that carries the number where it is none of a kind
+abbrev pub DecodesKind : ℕ → Result Kind UnknownKind → Type 0
+DecodesKind n r = MatchResult r (λ k. kind_of n ≡ Some k) (λ e. (kind_of n ≡ None) × (e.0 ≡ n))
 
 -- the kind of a message; one that is none of the seven is foreign, whatever stands here for it
 abbrev pub kind_at : Message → Kind

@@ -13,3 +13,4 @@ pub mod State
 pub mod Store
 pub mod Strengths
 pub mod Up
+pub mod Words

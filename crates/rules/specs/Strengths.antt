@@ -1,9 +1,10 @@
 -- Strengths and marks: their numbers, and which strength fits which call.
-use Rattle.std.specs.Prelude.{ℕ, ◌+◌, ◌/◌, ◌%◌, Bool, true, false, cond, Some, None, Option, ◌==◌}
+use Rattle.std.specs.Prelude.{ℕ, ◌≡◌, ◌+◌, ◌/◌, ◌%◌, Bool, true, false, cond, Some, None, Option, Result, MatchResult, ◌==◌}
 use Rattle.rules.specs.declared.strength.Access.{Access}
 use Rattle.rules.specs.declared.strength.Access.TheVariants.{Load, Store, Fence}
 use Rattle.rules.specs.declared.strength.Strength.{Strength}
 use Rattle.rules.specs.declared.strength.Strength.TheVariants.{Relaxed, Acquire, Release, SeqCst}
+use Rattle.rules.specs.declared.strength.UnknownStrength.{UnknownStrength}
 
 abbrev pub strength_number : Strength → ℕ
 strength_number Relaxed = 0
@@ -18,6 +19,10 @@ strength_of g =
     (cond (g == strength_number Acquire) (Some Acquire)
     (cond (g == strength_number Release) (Some Release)
     (cond (g == strength_number SeqCst) (Some SeqCst) None)))
+
+-- the strength of a number, or an error that carries the number where it is none of a strength
+abbrev pub DecodesStrength : ℕ → Result Strength UnknownStrength → Type 0
+DecodesStrength g r = MatchResult r (λ k. (strength_of g ≡ Some k) × (strength_number k ≡ g)) (λ e. (strength_of g ≡ None) × (e.0 ≡ g))
 
 -- which strengths a load, a store and a fence take
 abbrev pub takes : Access → Strength → Bool

@@ -1,46 +1,75 @@
-ghost use Rattle.std.specs.Prelude.{◌≡◌};
-ghost use Rattle.rules.specs.Kinds.{kind_number, kind_of};
+ghost use Rattle.std.specs.Prelude.{◌≡◌, ◌++◌, Some, codes, decimal};
+ghost use Rattle.rules.specs.Kinds.{kind_number, DecodesKind};
+ghost use Rattle.rules.specs.Words.{kind_word};
+
+use std::error::Error;
+use std::fmt;
 
 // What a message is for.
 #[derive(Clone, Copy, PartialEq, Eq, Debug)]
 pub enum Kind {
-    Write,
-    ReadRequest,
-    ReadResponse,
-    FenceRequest,
-    FenceResponse,
-    WriteAck,
-    Drop,
+    Write = 1,
+    ReadRequest = 2,
+    ReadResponse = 3,
+    FenceRequest = 4,
+    FenceResponse = 5,
+    WriteAck = 6,
+    Drop = 7,
 }
 
-impl Kind {
-    pub fn number(self) -> u8
-        ensures { result ≡ kind_number self }
-    {
-        match self {
-            Kind::Write => 1,
-            Kind::ReadRequest => 2,
-            Kind::ReadResponse => 3,
-            Kind::FenceRequest => 4,
-            Kind::FenceResponse => 5,
-            Kind::WriteAck => 6,
-            Kind::Drop => 7,
-        }
-    }
+// A number that no kind has.
+#[derive(Clone, Copy, PartialEq, Eq, Debug)]
+pub struct UnknownKind(pub u8);
 
-    // The kind of that number.
-    pub fn of(number: u8) -> Option<Kind>
-        ensures { result ≡ kind_of number }
-    {
+impl From<Kind> for u8 {
+    ghost from_gives = { λ k n. n ≡ kind_number k };
+
+    fn from(kind: Kind) -> u8 {
+        kind as u8
+    }
+}
+
+impl TryFrom<u8> for Kind {
+    type Error = UnknownKind;
+
+    ghost try_from_gives = { DecodesKind };
+
+    fn try_from(number: u8) -> Result<Kind, UnknownKind> {
         match number {
-            1 => Some(Kind::Write),
-            2 => Some(Kind::ReadRequest),
-            3 => Some(Kind::ReadResponse),
-            4 => Some(Kind::FenceRequest),
-            5 => Some(Kind::FenceResponse),
-            6 => Some(Kind::WriteAck),
-            7 => Some(Kind::Drop),
-            _ => None,
+            1 => Ok(Kind::Write),
+            2 => Ok(Kind::ReadRequest),
+            3 => Ok(Kind::ReadResponse),
+            4 => Ok(Kind::FenceRequest),
+            5 => Ok(Kind::FenceResponse),
+            6 => Ok(Kind::WriteAck),
+            7 => Ok(Kind::Drop),
+            _ => Err(UnknownKind(number)),
         }
     }
 }
+
+impl fmt::Display for Kind {
+    ghost output = { λ k. Some (kind_word k) };
+
+    fn fmt<W: fmt::Write>(&self, f: &mut fmt::Formatter<W>) -> fmt::Result {
+        f.write_str(match self {
+            Kind::Write => "WRITE",
+            Kind::ReadRequest => "RREQ",
+            Kind::ReadResponse => "RRESP",
+            Kind::FenceRequest => "FREQ",
+            Kind::FenceResponse => "FRESP",
+            Kind::WriteAck => "WRITE_ACK",
+            Kind::Drop => "DROP",
+        })
+    }
+}
+
+impl fmt::Display for UnknownKind {
+    ghost output = { λ e. Some (codes "no kind of message has number " ++ decimal e.0) };
+
+    fn fmt<W: fmt::Write>(&self, f: &mut fmt::Formatter<W>) -> fmt::Result {
+        write!(f, "no kind of message has number {}", self.0)
+    }
+}
+
+impl Error for UnknownKind {}

@@ -1,8 +1,11 @@
-ghost use Rattle.std.specs.Prelude.{◌≡◌};
+ghost use Rattle.std.specs.Prelude.{◌≡◌, Some};
 ghost use Rattle.rules.specs.declared.refusal.Refusal.TheVariants.{Fabric};
 ghost use Rattle.rules.specs.Refusals.{refusal_number};
+ghost use Rattle.rules.specs.Words.{refusal_bytes};
 
 use fabric::FabricFault;
+use std::error::Error;
+use std::fmt;
 
 // Why a board turns a call away. A refused call changes nothing.
 #[derive(Clone, Copy, PartialEq, Eq, Debug)]
@@ -35,12 +38,12 @@ impl From<FabricFault> for Refusal {
     }
 }
 
-impl Refusal {
-    // The number of the refusal.
-    pub fn number(self) -> u8
-        ensures { result ≡ refusal_number self }
-    {
-        match self {
+// The number of a refusal.
+impl From<Refusal> for u8 {
+    ghost from_gives = { λ e n. n ≡ refusal_number e };
+
+    fn from(refusal: Refusal) -> u8 {
+        match refusal {
             Refusal::WrongSize => 1,
             Refusal::MessageWaits => 2,
             Refusal::NoShim => 3,
@@ -58,3 +61,20 @@ impl Refusal {
         }
     }
 }
+
+// The number of a refusal, and then what it carries.
+impl fmt::Display for Refusal {
+    ghost output = { λ e. Some (refusal_bytes e) };
+
+    fn fmt<W: fmt::Write>(&self, f: &mut fmt::Formatter<W>) -> fmt::Result {
+        let number = u8::from(*self);
+        match *self {
+            Refusal::Fabric(FabricFault::NoLane(_)) => write!(f, "{number}"),
+            Refusal::Fabric(fault) => write!(f, "{number} {} {}", u8::from(fault), fault.lane()),
+            Refusal::Foreign(lane) => write!(f, "{number} {lane}"),
+            _ => write!(f, "{number}"),
+        }
+    }
+}
+
+impl Error for Refusal {}

@@ -11,7 +11,7 @@ pub fn load_request(shim: u8, line: u8, strength: Strength) -> Message
     ensures { result ≡ load_message shim line (strength_number strength) }
 {
     Message {
-        kind: Kind::ReadRequest.number(),
+        kind: Kind::ReadRequest.into(),
         line,
         mark: strength.mark(false),
         sender: shim,
@@ -25,7 +25,7 @@ pub fn store_request(shim: u8, line: u8, strength: Strength, held: bool, value: 
     ensures { result ≡ store_message shim line strength held value }
 {
     Message {
-        kind: Kind::Write.number(),
+        kind: Kind::Write.into(),
         line,
         mark: strength.mark(!held),
         sender: shim,
@@ -39,7 +39,7 @@ pub fn fence_request(shim: u8) -> Message
     ensures { result ≡ fence_message shim }
 {
     Message {
-        kind: Kind::FenceRequest.number(),
+        kind: Kind::FenceRequest.into(),
         line: 0,
         mark: Strength::SeqCst.mark(false),
         sender: shim,
@@ -53,7 +53,7 @@ pub fn drop_request(shim: u8, line: u8) -> Message
     ensures { result ≡ drop_message shim line }
 {
     Message {
-        kind: Kind::Drop.number(),
+        kind: Kind::Drop.into(),
         line,
         mark: 0,
         sender: shim,

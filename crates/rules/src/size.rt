@@ -10,5 +10,5 @@ pub const MAX_LINES: usize = 64;
 pub fn is_board_size(shims: u32, lines: u32) -> bool
     ensures { result ≡ is_size shims lines }
 {
-    1 <= shims && shims as usize <= MAX_SHIMS && 1 <= lines && lines as usize <= MAX_LINES
+    (1..=MAX_SHIMS).contains(&(shims as usize)) && (1..=MAX_LINES).contains(&(lines as usize))
 }

@@ -19,27 +19,18 @@ pub struct HubLine {
     pub sharers: [bool; MAX_SHIMS],
 }
 
-// Whether a shim has a copy of a line, and whether the hub has answered for it.
-#[derive(Clone, Copy)]
-pub enum Hold {
-    NotHeld,
-    // Stored to, and the hub's acknowledgement is still to come.
-    Unsettled,
-    Settled,
-}
-
-// A line at a shim. Copy and stamp are 0 where it is not held.
-#[derive(Clone, Copy)]
-pub struct ShimLine {
-    pub hold: Hold,
+// A line that a shim holds.
+#[derive(Clone, Copy, PartialEq, Eq, Debug)]
+pub struct Held {
+    // Whether the hub has answered for the line; its acknowledgement of a store is still to come otherwise.
+    pub settled: bool,
     pub copy: Word,
     pub stamp: u32,
 }
 
-// What a shim waits for, and on which line.
-#[derive(Clone, Copy)]
+// What a shim can wait for, and on which line.
+#[derive(Clone, Copy, PartialEq, Eq, Debug)]
 pub enum Wait {
-    Ready,
     Load(u8),
     Store(u8),
     Fence,
@@ -47,8 +38,10 @@ pub enum Wait {
 
 #[derive(Clone, Copy)]
 pub struct Shim {
-    pub wait: Wait,
-    pub lines: [ShimLine; MAX_LINES],
+    // None where the shim is ready.
+    pub wait: Option<Wait>,
+    // None where the shim does not hold the line.
+    pub lines: [Option<Held>; MAX_LINES],
 }
 
 // What the calls on a board change.

@@ -1,82 +1,93 @@
-ghost use Rattle.std.specs.Prelude.{◌≡◌, MatchOption};
-ghost use Rattle.rules.specs.Strengths.{strength_number, strength_of, takes, fitting, mark_of, mark_strength, is_sc, asks_sync};
+ghost use Rattle.std.specs.Prelude.{◌≡◌, ◌++◌, Some, MatchOption, codes, decimal};
+ghost use Rattle.rules.specs.Strengths.{strength_number, DecodesStrength, takes, fitting, mark_of, mark_strength, is_sc, asks_sync};
+
+use std::error::Error;
+use std::fmt;
 
 // How strictly a call is ordered with the calls around it, by the names of C11.
-#[derive(Clone, Copy)]
+#[derive(Clone, Copy, PartialEq, Eq, Debug)]
 pub enum Strength {
-    Relaxed,
-    Acquire,
-    Release,
-    SeqCst,
+    Relaxed = 0,
+    Acquire = 1,
+    Release = 2,
+    SeqCst = 3,
 }
 
+// A number that no strength has.
+#[derive(Clone, Copy, PartialEq, Eq, Debug)]
+pub struct UnknownStrength(pub u8);
+
 // The calls that have a strength.
-#[derive(Clone, Copy)]
+#[derive(Clone, Copy, PartialEq, Eq, Debug)]
 pub enum Access {
     Load,
     Store,
     Fence,
 }
 
-impl Strength {
-    pub fn number(self) -> u8
-        ensures { result ≡ strength_number self }
-    {
-        match self {
-            Strength::Relaxed => 0,
-            Strength::Acquire => 1,
-            Strength::Release => 2,
-            Strength::SeqCst => 3,
-        }
-    }
+impl From<Strength> for u8 {
+    ghost from_gives = { λ k n. n ≡ strength_number k };
 
-    // The strength of that number.
-    pub fn of(number: u8) -> Option<Strength>
-        ensures value { result ≡ strength_of number }
-        ensures number { MatchOption result Unit (λ k. strength_number k ≡ number) }
-    {
+    fn from(strength: Strength) -> u8 {
+        strength as u8
+    }
+}
+
+impl TryFrom<u8> for Strength {
+    type Error = UnknownStrength;
+
+    ghost try_from_gives = { DecodesStrength };
+
+    fn try_from(number: u8) -> Result<Strength, UnknownStrength> {
         match number {
-            0 => Some(Strength::Relaxed),
-            1 => Some(Strength::Acquire),
-            2 => Some(Strength::Release),
-            3 => Some(Strength::SeqCst),
-            _ => None,
+            0 => Ok(Strength::Relaxed),
+            1 => Ok(Strength::Acquire),
+            2 => Ok(Strength::Release),
+            3 => Ok(Strength::SeqCst),
+            _ => Err(UnknownStrength(number)),
         }
     }
+}
 
+impl fmt::Display for UnknownStrength {
+    ghost output = { λ e. Some (codes "no strength has number " ++ decimal e.0) };
+
+    fn fmt<W: fmt::Write>(&self, f: &mut fmt::Formatter<W>) -> fmt::Result {
+        write!(f, "no strength has number {}", self.0)
+    }
+}
+
+impl Error for UnknownStrength {}
+
+impl Strength {
     // Whether a call takes this strength.
     pub fn fits(self, access: Access) -> bool
         ensures { result ≡ takes access self }
     {
-        match (access, self) {
-            (Access::Load, Strength::Release) => false,
-            (Access::Store, Strength::Acquire) => false,
-            (Access::Fence, Strength::SeqCst) => true,
-            (Access::Fence, _) => false,
-            _ => true,
+        match access {
+            Access::Load => self != Strength::Release,
+            Access::Store => self != Strength::Acquire,
+            Access::Fence => self == Strength::SeqCst,
         }
     }
 
     // The strength of that number, where a call takes it.
+    #[tactic(auto, unfolding(crate::specs::Strengths::fitting))]
     pub fn fitting(access: Access, number: u8) -> Option<Strength>
         ensures value { result ≡ fitting access number }
         ensures number { MatchOption result Unit (λ k. strength_number k ≡ number) }
     {
-        match Strength::of(number) {
-            Some(strength) if strength.fits(access) => Some(strength),
-            _ => None,
-        }
+        Strength::try_from(number)
+            .ok()
+            .filter(|strength| strength.fits(access))
     }
 
     // The mark of a message of this strength.
     pub fn mark(self, synchronise: bool) -> u8
         ensures { result ≡ mark_of self synchronise }
     {
-        if synchronise {
-            self.number() + SYNCHRONISE
-        } else {
-            self.number()
-        }
+        let asked = if synchronise { SYNCHRONISE } else { 0 };
+        u8::from(self) + asked
     }
 }
 
@@ -94,7 +105,7 @@ pub fn mark_strength(mark: u8) -> u8
 pub fn is_sc(mark: u8) -> bool
     ensures { result ≡ is_sc mark }
 {
-    mark_strength(mark) == 3
+    mark_strength(mark) == u8::from(Strength::SeqCst)
 }
 
 // Whether a mark asks to be synchronised.

@@ -1,33 +1,42 @@
 -- What the state of a board and its lanes are to the machine of the common order.
-use Rattle.std.proofs.Common.{ℕ, List, map}
+use Rattle.std.proofs.Common.{◌≡◌, ℕ, Bool, true, false, List, Some, None, Option, map, refl}
+use mathlib.Core.Bool.{false≢true}
+use mathlib.Core.Option.{some}
 use Rattle.fabric.specs.Lanes.{Lane, messages_of}
 use Rattle.fabric.specs.declared.message.Message.{Message}
 use Rattle.rules.specs.Kinds.{kind_at}
-use Rattle.rules.specs.State.{up_lane, down_lane, wait_at, line_at, hub_at, shares}
+use Rattle.rules.specs.State.{up_lane, down_lane, wait_at, line_at, hub_at, shares, is_held, copy_of}
 use Rattle.rules.specs.Strengths.{mark_strength, is_sc, asks_sync}
 use Rattle.rules.specs.declared.kind.Kind.{Kind}
 use Rattle.rules.specs.declared.kind.Kind.TheVariants as kind
-use Rattle.rules.specs.declared.state.Hold.{Hold}
-use Rattle.rules.specs.declared.state.Hold.TheVariants as hold
-use Rattle.rules.specs.declared.state.ShimLine.{ShimLine}
+use Rattle.rules.specs.declared.state.Held.{Held}
 use Rattle.rules.specs.declared.state.State.{State}
 use Rattle.rules.specs.declared.state.Wait as rules
 use Rattle.rules.specs.declared.state.Wait.TheVariants as wait
-use Rattle.order.proofs.Machine.{Request, Write, Read, Sync, Drop, Notice, Update, Ack, Reply, OtherFence, OwnFence, Line, NotHeld, Unsettled, Settled, Wait, Ready, ForLoad, ForStore, ForFence, Board}
+use Rattle.order.proofs.Machine.{Request, Write, Read, Sync, Drop, Notice, Update, Ack, Reply, OtherFence, OwnFence, Line, NotHeld, Unsettled, Settled, Wait, Ready, ForLoad, ForStore, ForFence, copy, Board}
 
-abbrev pub wait_of : rules.Wait → Wait
-wait_of wait.Ready = Ready
-wait_of (wait.Load x) = ForLoad x
-wait_of (wait.Store x) = ForStore x
-wait_of wait.Fence = ForFence
+abbrev pub wait_of : Option rules.Wait → Wait
+wait_of None = Ready
+wait_of (Some (wait.Load x)) = ForLoad x
+wait_of (Some (wait.Store x)) = ForStore x
+wait_of (Some wait.Fence) = ForFence
 
-abbrev pub line_held : Hold → ℕ → ℕ → Line
-line_held hold.NotHeld c t = NotHeld
-line_held hold.Unsettled c t = Unsettled c t
-line_held hold.Settled c t = Settled c t
+abbrev pub line_held : Bool → ℕ → ℕ → Line
+line_held true c t = Settled c t
+line_held false c t = Unsettled c t
 
-abbrev pub line_of : ShimLine → Line
-line_of l = line_held l.hold l.copy l.stamp
+abbrev pub line_of : Option Held → Line
+line_of None = NotHeld
+line_of (Some h) = line_held h.settled h.copy h.stamp
+
+-- a held line's copy is the machine's
+pub copy_is : (l : Option Held) → is_held l ≡ true → copy (line_of l) ≡ some (copy_of l)
+copy_is None e = absurd (false≢true e)
+copy_is (Some h) e = go h.settled
+  where
+    go : (t : Bool) → copy (line_held t h.copy h.stamp) ≡ some h.copy
+    go true = refl
+    go false = refl
 
 -- a message on an up lane, by its kind; those that do not go up are foreign there, and whatever stands for them is not used
 abbrev pub request_by : Message → Kind → Request

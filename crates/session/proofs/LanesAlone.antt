@@ -45,7 +45,7 @@ module _ (ω : Backing) where
   pub lanes_alone : (z : Size) (b : State) (φ : Model ω) (c : Call) → forget (call_rule ω z b φ c) ≡ call_rule no_backing z b (bare φ) c
   lanes_alone z b φ (Load s x g) =
       forget_checks b φ (load_checks z b φ.lanes s x g) _ _
-      (forget_cond (is_held (line_at b s x).hold) _ (load_miss ω b φ s x g) _ (load_miss no_backing b (bare φ) s x g) refl (forget_checks b φ (lane_full φ.lanes (up_lane s) ∷ []) _ _ refl))
+      (forget_cond (is_held (line_at b s x)) _ (load_miss ω b φ s x g) _ (load_miss no_backing b (bare φ) s x g) refl (forget_checks b φ (lane_full φ.lanes (up_lane s) ∷ []) _ _ refl))
   lanes_alone z b φ (Store s x g v) = forget_checks b φ (store_checks z b φ.lanes s x g) (store_accepted ω b φ s x g v) (store_accepted no_backing b (bare φ) s x g v) (forget_cond (is_sc g) _ _ _ _ refl refl)
   lanes_alone z b φ (Fence s g) = forget_checks b φ (fence_checks z b φ.lanes s g) _ _ refl
   lanes_alone z b φ (Evict s x) = forget_checks b φ (evict_checks z b φ.lanes s x) _ _ refl

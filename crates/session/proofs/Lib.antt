@@ -1,4 +1,5 @@
 mod Agreeing
+mod Ends
 mod LanesAlone
 mod Opening
 mod Reports

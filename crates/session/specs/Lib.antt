@@ -1,6 +1,5 @@
 pub mod Agreement
 pub mod Carrier
-pub mod Choice
 pub mod Items
 pub mod Meaning
 pub mod Playing

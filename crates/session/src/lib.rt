@@ -6,6 +6,7 @@ mod next;
 mod open;
 mod printed;
 mod printer;
+mod rig;
 mod session;
 
 pub use carrier::BUFFER_LEN;

@@ -1,53 +1,47 @@
-ghost use Rattle.std.specs.Prelude.{◌≡◌};
-ghost use Rattle.session.specs.Carrier.{CarrierLawful};
-ghost use Rattle.session.specs.Choice.{Chosen};
-ghost use Rattle.session.specs.Meaning.{play_of};
-ghost use Rattle.session.specs.Playing.{started};
+ghost use Rattle.std.specs.Prelude.{◌≡◌, ℕ};
+ghost use Rattle.session.specs.Meaning.{play_in, play_of};
+ghost use Rattle.session.specs.Playing.{begun_by, started};
 
-use crate::carrier::{BUFFER_LEN, Carrier, make_board};
+use crate::carrier::BUFFER_LEN;
+use crate::rig::Rig;
 use crate::session::{Phase, Session};
 use rules::is_board_size;
-use sheet::{Board as BoardLine, FabricName, Reader};
+use sheet::{Board as BoardLine, Reader};
+use verdict::Flaw;
 use words::Fault;
 
-// What a sheet that is not run has in the place of its board.
-const SMALLEST: BoardLine = BoardLine {
-    shims: 1,
-    lines: 1,
-    fabric: FabricName::Ring,
-};
-
-// The board that is made for a board line, and what is to be told first.
-fn chosen(line: Result<BoardLine, Fault>) -> (BoardLine, Phase)
-    ensures { Chosen line result }
-{
-    match line {
-        Ok(asked) if is_board_size(asked.shims, asked.lines) => (asked, Phase::Running),
-        Ok(_) => (SMALLEST, Phase::WrongBoard),
-        Err(fault) => (SMALLEST, Phase::Faulty(fault)),
+impl<'a> Phase<'a> {
+    // What is told first of a sheet with this board line. Its frames lie in the buffer.
+    fn first(
+        line: Result<BoardLine, Fault>,
+        sheet: &[u8],
+        buffer: &'a mut [u8; BUFFER_LEN],
+    ) -> Phase<'a>
+        ensures { (place : ℕ) → play_in place 0 result ≡ begun_by sheet.now place line }
+    {
+        match line {
+            Ok(asked) if is_board_size(asked.shims, asked.lines) => {
+                Phase::Running(Rig::new(asked, buffer))
+            }
+            Ok(_) => Phase::Flawed(Flaw::WrongBoard),
+            Err(fault) => Phase::Flawed(Flaw::of(sheet, fault)),
+        }
     }
 }
 
 impl<'a> Session<'a> {
     // A run of the sheet, from its start. The buffer is for the frames of a sheet that asks for them.
     pub fn new(sheet: &'a [u8], buffer: &'a mut [u8; BUFFER_LEN]) -> Session<'a>
-        ensures lawful { CarrierLawful result.carrier }
         ensures play { play_of result ≡ started sheet.now }
         ensures sheet { result.reader.sheet ≡ sheet.entry }
     {
         let mut reader = Reader::new(sheet);
-        let (asked, phase) = chosen(reader.board());
-        let carrier = Carrier::new(asked.fabric, asked.shims as usize, buffer);
-        let Ok(board) = make_board(&carrier, asked.shims, asked.lines) else {
-            unreachable()
-        };
+        let phase = Phase::first(reader.board(), sheet, buffer);
         Session {
             sheet,
             reader,
-            board,
-            carrier,
-            steps: 0,
             phase,
+            steps: 0,
         }
     }
 }

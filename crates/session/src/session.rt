@@ -1,19 +1,16 @@
 ghost use Rattle.std.specs.Prelude.{◌≡◌, ◌≤◌};
 
-use crate::carrier::Carrier;
-use board::Board;
+use crate::rig::Rig;
 use sheet::Reader;
-use words::Fault;
+use verdict::Flaw;
 
-// What is to be told next.
-#[derive(Clone, Copy)]
-pub(crate) enum Phase {
-    // The next line.
-    Running,
-    // A fault before the lines.
-    Faulty(Fault),
-    // That there is no board of the size asked for.
-    WrongBoard,
+// What is told next.
+#[derive(Drop)]
+pub(crate) enum Phase<'a> {
+    // What the next line says, which is run on this board.
+    Running(Rig<'a>),
+    // What is wrong with the sheet before its lines.
+    Flawed(Flaw),
     // Nothing.
     Over,
 }
@@ -23,11 +20,9 @@ pub(crate) enum Phase {
 pub struct Session<'a> {
     pub(crate) sheet: &'a [u8],
     pub(crate) reader: Reader<'a>,
-    pub(crate) board: Board,
-    pub(crate) carrier: Carrier<'a>,
+    pub(crate) phase: Phase<'a>,
     // How many calls were made.
     pub(crate) steps: usize,
-    pub(crate) phase: Phase,
     ghost same: { reader.sheet.now ≡ sheet.now },
     ghost few_steps: { steps ≤ reader.at },
 }

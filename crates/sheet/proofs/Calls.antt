@@ -1,5 +1,5 @@
 -- The line of a call: its first byte tells which it can be.
-use Rattle.std.proofs.Common.{◌≡◌, ℕ, ◌+◌, Bool, true, false, cond, eqb, ◌⊎◌, List, [], ◌∷◌, get_or, IfOk, Some, None, Ok, Err, Option, Result, sym, refl, ap, ◌∙◌, subst, inl, inr, ⊎_elim, arith, Bor, rules}
+use Rattle.std.proofs.Common.{◌≡◌, ℕ, ◌+◌, Bool, true, false, cond, eqb, ◌⊎◌, List, [], ◌∷◌, get_or, IfOk, OnOk, Some, None, Ok, Err, Option, Result, sym, refl, ap, ◌∙◌, subst, inl, inr, ⊎_elim, arith, Bor}
 use Rattle.std.specs.Str.{bytes_eq}
 use Rattle.words.specs.declared.fault.Fault.{Fault}
 use Rattle.words.specs.declared.fault.FaultKind.TheVariants.{UnknownWord}
@@ -9,6 +9,8 @@ use Rattle.sheet.specs.declared.op.Op.{Op}
 use Rattle.sheet.specs.declared.op.Op.TheVariants.{Load, Store, Fence, Evict, Up, Down}
 use Rattle.words.specs.Faults.{fault}
 use Rattle.sheet.specs.Format.{hash, a_call, op_word}
+use Rattle.sheet.specs.Moves.{MovedTo}
+use Rattle.sheet.specs.declared.reader.Reader.{Reader}
 use Rattle.sheet.specs.Lines.{told, InPlace, LineAt, call_line_at}
 use Rattle.sheet.specs.Reading.{followed_by, unless, wanted, keyword_at, word_at, word_end, line_end, operands_at, operands_end, op_operands, op_of, call_of, call_at, note_at, entry_at}
 use Rattle.sheet.proofs.Ends.{followed_by_ok, operands_line, line_end_of_word}
@@ -78,28 +80,23 @@ module _ (s : List ℕ) (a : ℕ) (op : Op) where
       ∙ sym (ap (λ b. cond b (note_at s a) (call_at s a (op_of (word_at s a)))) (ap (λ b. eqb b hash) first ∙ initial_is_no_note op))
       ∙ sym (ap (λ (h : Result Unit Fault). followed_by h (λ _. cond (eqb (get_or s a 0) hash) (note_at s a) (call_at s a (op_of (word_at s a))))) here)
 
-  call_after : (r : Result Line Fault) (next : ℕ) → r ≡ call_line_at op s a → IfOk r (λ _. next ≡ operands_end (op_operands op) s (word_end s a)) → IfOk r (λ _. next ≡ line_end s a + 1)
-  call_after (Err f) next read after = tt
-  call_after (Ok l) next read after =
+  call_after : (before here : Reader) (r : Result Line Fault) → r ≡ call_line_at op s a → OnOk r (MovedTo before here (operands_end (op_operands op) s (word_end s a)))
+      → IfOk r (λ _. here.at ≡ line_end s a + 1)
+  call_after before here (Err f) read moved = tt
+  call_after before here (Ok l) read moved =
       let one = followed_by_ok (keyword_at (op_word op) s a) _ l (sym read) in
       let two = followed_by_ok (operands_at (op_operands op) s (word_end s a)) _ l one.2 in
-      after ∙ operands_line (op_operands op) s (word_end s a) two.0 two.1 ∙ ap (λ n. n + 1) (line_end_of_word s a)
+      moved.at ∙ operands_line (op_operands op) s (word_end s a) two.0 two.1 ∙ ap (λ n. n + 1) (line_end_of_word s a)
 
 -- the line of a call whose first byte is right
-pub call_line : (s : Bor (List ℕ)) (a : ℕ) (op : Op) (r : Result Line Fault) (next : ℕ) → wanted s.now a ≡ Ok tt → get_or s.now a 0 ≡ initial op
-    → r ≡ call_line_at op s.now a → IfOk r (λ _. next ≡ operands_end (op_operands op) s.now (word_end s.now a)) → LineAt s a r next
-call_line s a op r next here first read after =
+pub call_line : (before here : Reader) (op : Op) (r : Result Line Fault) → wanted before.sheet.now before.at ≡ Ok tt → get_or before.sheet.now before.at 0 ≡ initial op
+    → r ≡ call_line_at op before.sheet.now before.at → OnOk r (MovedTo before here (operands_end (op_operands op) before.sheet.now (word_end before.sheet.now before.at)))
+    → LineAt before.sheet before.at r here.at
+call_line before here op r wants first read moved =
+    let s = before.sheet in
+    let a = before.at in
     record {
-      value = ap told read ∙ call_entry s.now a op here first;
+      value = ap told read ∙ call_entry s.now a op wants first;
       place = subst (InPlace s a) (sym read) (call_in_place s a op (keyword_at (op_word op) s.now a) (operands_at (op_operands op) s.now (word_end s.now a)));
-      after = call_after s.now a op r next read after;
+      after = call_after s.now a op before here r read moved;
     }
-
--- no call begins with another byte
-module _ (s : List ℕ) (a : ℕ) (l : get_or s a 0 ≡ 108 → ⊥) (t : get_or s a 0 ≡ 115 → ⊥) (f : get_or s a 0 ≡ 102 → ⊥) (e : get_or s a 0 ≡ 101 → ⊥) (u : get_or s a 0 ≡ 117 → ⊥) (d : get_or s a 0 ≡ 100 → ⊥) where
-  by_word : (w : List ℕ) → (w ≡ []) ⊎ (get_or w 0 0 ≡ get_or s a 0) → op_of w ≡ None
-  by_word [] h = refl
-  by_word (b ∷ bs) h = search rules
-
-  pub other_first : op_of (word_at s a) ≡ None
-  other_first = by_word (word_at s a) (first_of_word s a)

@@ -1,11 +1,11 @@
 -- A line that was read ends at its line feed.
-use Rattle.std.proofs.Common.{◌≡◌, ℕ, suc, ◌+◌, ◌<◌, true, false, cond, eqb, List, [], ◌∷◌, length, get_or, drop, Ok, Err, Result, sym, refl, ap, ◌∙◌, ⊎_elim, zero-add, arith, rules}
+use Rattle.std.proofs.Common.{◌≡◌, ℕ, ◌+◌, ◌<◌, true, false, not, cond, eqb, List, [], ◌∷◌, length, get_or, drop, Ok, Err, Result, sym, refl, ap, ◌∙◌, ⊎_elim, zero-add, add-zero, add-one, drop-cons, arith, rules}
+use Rattle.std.proofs.Math.Numerals.{one-add}
 use Rattle.std.proofs.lemmas.List.{drop-drop}
 use Rattle.std.proofs.lemmas.Bool.{cases_Bool, or_parts}
 use Rattle.words.specs.declared.fault.Fault.{Fault}
 use Rattle.sheet.specs.Reading.{followed_by, wanted, line_ends, word_end, line_end, Operand, operand_at, operand_end, operands_at, operands_end}
-use Rattle.words.specs.Lengths.{line_feed, space, ends_word, ends_line, word_length, line_length}
-use Rattle.words.proofs.Scan.{at_stop, goes_on}
+use Rattle.words.specs.Lengths.{line_feed, space, ends_word, word_length, line_length}
 
 -- what went well went well step by step
 pub followed_by_ok : {X Y : Type 0} (r : Result X Fault) (next : X → Result Y Fault) (y : Y) → followed_by r next ≡ Ok y → (x : X) × (r ≡ Ok x) × (next x ≡ Ok y)
@@ -17,11 +17,11 @@ line_of_word : (d : List ℕ) → line_length d ≡ word_length d + line_length 
 line_of_word [] = refl
 line_of_word (b ∷ bs) =
     ⊎_elim
-    (λ e. let w : word_length (b ∷ bs) ≡ 0 = ap (λ t. cond t 0 (suc (word_length bs))) e in rw w (sym (zero-add _)))
+    (λ e. let w : word_length (b ∷ bs) ≡ 0 = ap (λ t. cond (not t) (1 + word_length bs) 0) e in rw w (sym (zero-add _)))
     (λ e.
-    let l : line_length (b ∷ bs) ≡ suc (line_length bs) = ap (λ t. cond t 0 (suc (line_length bs))) (or_parts (eqb b space) (eqb b line_feed) e).1 in
-    let w : word_length (b ∷ bs) ≡ suc (word_length bs) = ap (λ t. cond t 0 (suc (word_length bs))) e in
-    rw (l, w) (omega (arith, line_of_word bs)))
+    let l : line_length (b ∷ bs) ≡ 1 + line_length bs = ap (λ t. cond (not t) (1 + line_length bs) 0) (or_parts (eqb b space) (eqb b line_feed) e).1 in
+    let w : word_length (b ∷ bs) ≡ 1 + word_length bs = ap (λ t. cond (not t) (1 + word_length bs) 0) e in
+    l ∙ omega (arith, line_of_word bs, ap (λ n. line_length (drop n (b ∷ bs))) (w ∙ one-add _)))
     (cases_Bool (ends_word b))
 
 pub line_end_of_word : (s : List ℕ) (a : ℕ) → line_end s (word_end s a) ≡ line_end s a
@@ -37,10 +37,13 @@ module _ (s : List ℕ) (a : ℕ) where
   ends_within e = search rules
 
   pub line_end_next : wanted s a ≡ Ok tt → line_end s (a + 1) ≡ line_end s a
-  line_end_next e = let w = wanted_within e in goes_on ends_line s a w.0 w.1
+  line_end_next e =
+      let w = wanted_within e in
+      let here : line_length (drop a s) ≡ 1 + line_length (drop (a + 1) s) = rw (drop-cons s a 0 w.0) (simp (w.1, add-one)) in
+      omega arith
 
   pub line_end_here : line_ends s a ≡ Ok tt → line_end s a ≡ a
-  line_end_here e = let w = ends_within e in omega (arith, at_stop ends_line s a w.0 w.1)
+  line_end_here e = let w = ends_within e in rw (drop-cons s a 0 w.0) (simp w.1 (add-zero a))
 
 pub operand_wanted : (o : Operand) (s : List ℕ) (a v : ℕ) → operand_at o s a ≡ Ok v → (wanted s a ≡ Ok tt) × (wanted s (a + 1) ≡ Ok tt)
 operand_wanted o s a v e =

@@ -2,3 +2,4 @@ pub mod Boards
 pub mod Calls
 pub mod Ends
 pub mod Firsts
+pub mod Spelt

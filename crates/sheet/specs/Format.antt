@@ -22,21 +22,19 @@ size_limit = 65536
 abbrev pub hash : ℕ
 hash = 35
 
--- the words of the strengths, and of the fabrics, in the order of their numbers
+-- the words of the strengths, in the order of their numbers
 abbrev pub strength_words : List (List ℕ)
 strength_words = codes "RLX" ∷ codes "ACQ" ∷ codes "REL" ∷ codes "SC" ∷ []
-
-abbrev pub fabric_words : List (List ℕ)
-fabric_words = codes "ring" ∷ codes "frames" ∷ codes "staged" ∷ []
-
-abbrev pub fabric_number : FabricName → ℕ
-fabric_number Ring = 0
-fabric_number Frames = 1
-fabric_number Staged = 2
 
 -- the word of a list that has this number
 abbrev pub word_of : List (List ℕ) → ℕ → List ℕ
 word_of ws k = slice_index_or ws k []
+
+-- the word of each fabric
+abbrev pub fabric_word : FabricName → List ℕ
+fabric_word Ring = codes "ring"
+fabric_word Frames = codes "frames"
+fabric_word Staged = codes "staged"
 
 -- the word that each call begins with
 abbrev pub op_word : Op → List ℕ
@@ -61,7 +59,7 @@ abbrev pub board_word : List ℕ
 board_word = codes "board"
 
 abbrev pub board_words : Board → List (List ℕ)
-board_words b = board_word ∷ decimal b.shims ∷ decimal b.lines ∷ word_of fabric_words (fabric_number b.fabric) ∷ []
+board_words b = board_word ∷ decimal b.shims ∷ decimal b.lines ∷ fabric_word b.fabric ∷ []
 
 -- words parted by one space, with a line feed after the last: what follows a word, and a whole line
 abbrev pub after_word : List (List ℕ) → List ℕ

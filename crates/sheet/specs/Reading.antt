@@ -14,7 +14,7 @@ use Rattle.sheet.specs.declared.line.FabricName.TheVariants.{Ring, Frames, Stage
 use Rattle.sheet.specs.declared.op.Op.{Op}
 use Rattle.sheet.specs.declared.op.Op.TheVariants.{Load, Store, Fence, Evict, Up, Down}
 use Rattle.words.specs.Faults.{fault}
-use Rattle.sheet.specs.Format.{header, size_limit, hash, op_word, board_word, strength_words, fabric_words, Entry, a_call, a_note}
+use Rattle.sheet.specs.Format.{header, size_limit, hash, op_word, board_word, strength_words, fabric_word, Entry, a_call, a_note}
 use Rattle.rules.specs.Sizes.{is_size}
 use Rattle.words.specs.Lengths.{line_feed, word_length, line_length}
 use Rattle.words.specs.Numbers.{number_of}
@@ -35,6 +35,10 @@ word_at s a = take (word_length (drop a s)) (drop a s)
 abbrev pub word_end : List ℕ → ℕ → ℕ
 word_end s a = a + word_length (drop a s)
 
+-- the byte at place a, where the sheet goes on
+abbrev pub byte_at : List ℕ → ℕ → Result ℕ Fault
+byte_at s a = cond (nat_le (length s) a) (Err (fault NoLineFeed (length s))) (Ok (slice_index s a))
+
 -- a word is wanted at place a: it is not there where the sheet or the line ends
 abbrev pub wanted : List ℕ → ℕ → Result Unit Fault
 wanted s a = cond (nat_le (length s) a) (Err (fault NoLineFeed (length s))) (cond (slice_index s a == line_feed) (Err (fault WordCount a)) (Ok tt))
@@ -46,6 +50,10 @@ keyword_at name s a = followed_by (wanted s a) (λ _. unless (bytes_eq (word_at 
 -- the end of the line is wanted at place a
 abbrev pub line_ends : List ℕ → ℕ → Result Unit Fault
 line_ends s a = cond (nat_le (length s) a) (Err (fault NoLineFeed (length s))) (unless (slice_index s a == line_feed) (fault WordCount a))
+
+-- the words of the fabrics, in the order in which they are looked for
+abbrev pub fabric_words : List (List ℕ)
+fabric_words = fabric_word Ring ∷ fabric_word Frames ∷ fabric_word Staged ∷ []
 
 -- what an operand can be: a number, or a word of a list, which stands for its number there
 pub data Operand : Type 0 where

@@ -8,7 +8,7 @@ mod scan;
 
 pub use board::SIZE_LIMIT;
 
-// Reads a sheet from left to right.
+// Reads a sheet from left to right. The whole sheet stays beside the place, since a fault names a byte counted from its start.
 #[derive(Clone, Copy)]
 pub struct Reader<'a> {
     sheet: &'a [u8],

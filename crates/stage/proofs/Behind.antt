@@ -1,14 +1,14 @@
 -- What calls on a stage make of what lies behind it.
-use Rattle.std.proofs.Common.{◌≡◌, ℕ, ◌+◌, ◌<◌, cond, List, [], ◌∷◌, ◌++◌, length, is_ok, Some, None, Option, Result, sym, refl, ap, ◌∙◌, subst, add-one}
+use Rattle.std.proofs.Common.{◌≡◌, ℕ, ◌<◌, cond, List, [], ◌∷◌, ◌++◌, length, is_ok, Some, None, Option, Result, sym, refl, ap, ◌∙◌, subst}
 use Rattle.std.specs.Option.{option_to_list}
 use Rattle.fabric.specs.declared.message.Message.{Message}
 use Rattle.fabric.specs.declared.fault.FabricFault.{FabricFault}
 use Rattle.fabric.specs.Lanes.{Lane, Sound, with_messages, rest_of, lane_of, take_answer, messages_of, capacity_of}
-use Rattle.fabric.specs.Backing.{Backing, Model, after_take}
+use Rattle.fabric.specs.Backing.{Backing}
 use Rattle.fabric.proofs.Answered as answered
 use Rattle.fabric.proofs.Queue.{lanes_are, lanes_at, lanes_length}
-use Rattle.stage.specs.Stage.{register, stage_lane, stage_lanes, stage_backing, below_lanes, if_empty, firsts_taken, StageLawful}
-use Rattle.stage.proofs.Calls.{holds, full}
+use Rattle.stage.specs.Stage.{register, stage_lane, stage_lanes, stage_backing, below_lanes, if_empty, StageLawful}
+use Rattle.stage.proofs.Calls.{holds, empty, full}
 
 module _ (rs : List (Option Message)) (m : List Lane) (ok : StageLawful rs m) where
   rest_by : (k : ℕ) → k < length m → (o : Option Message) → register rs k ≡ o → messages_of m k ≡ rest_of (option_to_list (register rs k) ++ messages_of m k)
@@ -31,7 +31,7 @@ module _ (rs : List (Option Message)) (m : List Lane) (ok : StageLawful rs m) wh
 
     pub put_none_state : (x : Message) → register rs k ≡ None → s ≡ (stage_backing b).put_state s ls k x
     put_none_state x e =
-        let h : messages_of ls k ≡ [] = holds rs m k in_range ok sound ∙ (λ i. option_to_list (e i) ++ ok.register_first k in_range e i) in
+        let h : messages_of ls k ≡ [] = holds rs m k in_range ok sound ∙ empty rs m k in_range ok sound e in
         sym (ap (λ l. if_empty l s (b.put_state s (below_lanes ls) k x)) h)
 
     module _ (y : Message) (some : register rs k ≡ Some y) where
@@ -51,8 +51,3 @@ module _ (rs : List (Option Message)) (m : List Lane) (ok : StageLawful rs m) wh
 
       pub take_some_state : (s' : b.State) (r : Result Message FabricFault) → r ≡ take_answer m k → s' ≡ cond (is_ok r) (b.take_state s m k) s → s' ≡ (stage_backing b).take_state s ls k
       take_some_state = by_list (messages_of m k) refl
-
--- one more lane is drawn
-pub firsts_taken_more : (b : Backing) (m₀ m m' : Model b) (k : ℕ) (r : Result Message FabricFault) → m ≡ firsts_taken b m₀ k → r ≡ take_answer m.lanes k → m' ≡ after_take b r m k → m' ≡ firsts_taken b m₀ (k + 1)
-firsts_taken_more b m₀ m m' k r d a e =
-    e ∙ ap (λ q. after_take b q m k) a ∙ ap (λ (q : Model b). after_take b (take_answer q.lanes k) q k) d ∙ sym (ap (λ n. firsts_taken b m₀ n) (add-one k))

@@ -1,5 +1,7 @@
 -- The next message of a lane below comes up into the lane's register.
-use Rattle.std.proofs.Common.{◌≡◌, ℕ, ◌<◌, ◌≢◌, List, [], ◌∷◌, ◌++◌, length, get_or, Some, None, Ok, Err, Option, Result, sym, refl, ap, ◌∙◌, arith}
+use Rattle.std.proofs.Common.{◌≡◌, ℕ, ◌<◌, ◌≢◌, List, [], ◌∷◌, ◌++◌, length, get_or, Some, None, Ok, Err, Option, Result, sym, refl, ap, ◌∙◌, ⊎_elim, arith}
+use Rattle.std.proofs.lemmas.Bool.{cases_lt}
+use Rattle.std.proofs.lemmas.List.{get_or_past}
 use Rattle.std.specs.Option.{option_to_list}
 use Rattle.std.specs.Result.{result_ok}
 use Rattle.fabric.specs.declared.message.Message.{Message}
@@ -16,10 +18,9 @@ pub record Next (m m' : List Lane) (k : ℕ) (o : Option Message) : Type 0 where
   pub there : (j : ℕ) → j ≢ k → messages_of m' j ≡ messages_of m j
   pub register_first : o ≡ None → messages_of m' k ≡ []
 
-module _ (m m' : List Lane) (k : ℕ) (r : Result Message FabricFault) (o : Option Message) (in_range : k < length m) (answer : r ≡ take_answer m k) (after : m' ≡ lanes_after_take r m k) (next : o ≡ result_ok r) where
-  by_list : (l : List Message) → messages_of m k ≡ l → Next m m' k o
-  by_list [] e =
-      let q : r ≡ Err (FabricFault.Empty k) = answer ∙ answered.take_empty m k in_range e in
+module _ (m m' : List Lane) (k : ℕ) (r : Result Message FabricFault) (o : Option Message) (answer : r ≡ take_answer m k) (after : m' ≡ lanes_after_take r m k) (next : o ≡ result_ok r) where
+  none : (f : FabricFault) → r ≡ Err f → messages_of m k ≡ [] → Next m m' k o
+  none f q e =
       let s : m' ≡ m = after ∙ ap (λ a. lanes_after_take a m k) q in
       let z : o ≡ None = next ∙ ap result_ok q in
       let hs : (j : ℕ) → messages_of m' j ≡ messages_of m j = λ j. ap (λ (ls : List Lane). (get_or ls j no_lane).messages) s in
@@ -30,9 +31,12 @@ module _ (m m' : List Lane) (k : ℕ) (r : Result Message FabricFault) (o : Opti
         there = λ j _. hs j;
         register_first = λ _. hs k ∙ e;
       }
-  by_list (z ∷ zs) e =
-      let q : r ≡ Ok z = answer ∙ answered.take_ok m k z zs in_range e in
-      let d : Changed m m' k (rest_of (messages_of m k)) = changed m m' k _ in_range (after ∙ ap (λ a. lanes_after_take a m k) q) in
+
+  by_list : k < length m → (l : List Message) → messages_of m k ≡ l → Next m m' k o
+  by_list h [] e = none (FabricFault.Empty k) (answer ∙ answered.take_empty m k h e) e
+  by_list h (z ∷ zs) e =
+      let q : r ≡ Ok z = answer ∙ answered.take_ok m k z zs h e in
+      let d : Changed m m' k (rest_of (messages_of m k)) = changed m m' k _ h (after ∙ ap (λ a. lanes_after_take a m k) q) in
       let t : messages_of m' k ≡ zs = d.here ∙ ap rest_of e in
       let u : o ≡ Some z = next ∙ ap result_ok q in
       record {
@@ -44,4 +48,7 @@ module _ (m m' : List Lane) (k : ℕ) (r : Result Message FabricFault) (o : Opti
       }
 
   pub fetched : Next m m' k o
-  fetched = by_list (messages_of m k) refl
+  fetched =
+      ⊎_elim (λ h. by_list h (messages_of m k) refl)
+      (λ h. none (FabricFault.NoLane k) (answer ∙ answered.take_no_lane m k h) (ap (λ l. l.messages) (get_or_past m k no_lane h)))
+      (cases_lt k (length m))

@@ -1,14 +1,16 @@
 -- Making a stage: the registers are filled lane by lane.
-use Rattle.std.proofs.Common.{◌≡◌, ℕ, ◌+◌, ◌<◌, ◌≤◌, ◌≢◌, List, [], ◌++◌, length, set, None, Option, Result, sym, ap, ◌∙◌, subst, ⊎_elim, arith, length-set, get_or-set_other, get_or-set_same}
-use Rattle.std.proofs.lemmas.Bool.{cases_eq}
+use Rattle.std.proofs.Common.{◌≡◌, ℕ, suc, min, ◌+◌, ◌<◌, ◌≤◌, ◌≢◌, List, [], ◌++◌, length, set, None, Option, Result, sym, ap, ◌∙◌, subst, ⊎_elim, arith, length-set, get_or-set_other, get_or-set_same}
+use Rattle.std.proofs.lemmas.Bool.{cases_eq, cases_lt}
 use Rattle.std.specs.Option.{option_to_list}
 use Rattle.std.specs.Result.{result_ok}
 use Rattle.fabric.specs.declared.message.Message.{Message}
 use Rattle.fabric.specs.declared.fault.FabricFault.{FabricFault}
 use Rattle.fabric.specs.Lanes.{Lane, Sound, lane_limit, lane_of, take_answer, lanes_after_take, messages_of}
+use Rattle.fabric.specs.Backing.{Backing, Model, after_take}
+use Rattle.fabric.proofs.Answered as answered
 use Rattle.fabric.proofs.Queue.{lanes_are}
 use Rattle.stage.proofs.Fetches.{Next, fetched}
-use Rattle.stage.specs.Stage.{register, stage_lane, stage_lanes, StageLawful}
+use Rattle.stage.specs.Stage.{register, stage_lane, stage_lanes, firsts_taken, StageLawful}
 
 -- from m₀, the lanes below i have their first message in the register
 pub record Filled (rs : List (Option Message)) (m₀ m : List Lane) (i : ℕ) : Type 0 where
@@ -18,10 +20,11 @@ pub record Filled (rs : List (Option Message)) (m₀ m : List Lane) (i : ℕ) : 
   pub register_first : (k : ℕ) → k < i → register rs k ≡ None → messages_of m k ≡ []
   pub left : (k : ℕ) → i ≤ k → lane_of m k ≡ lane_of m₀ k
 
-pub one_filled : (rs : List (Option Message)) (m₀ m m' : List Lane) (i : ℕ) (r : Result Message FabricFault) (o : Option Message) → Filled rs m₀ m i → i < length m → i < lane_limit
+-- one more lane is drawn
+pub one_filled : (rs : List (Option Message)) (m₀ m m' : List Lane) (i : ℕ) (r : Result Message FabricFault) (o : Option Message) → Filled rs m₀ m i → i < lane_limit
     → r ≡ take_answer m i → m' ≡ lanes_after_take r m i → o ≡ result_ok r → Filled (set rs i o) m₀ m' (i + 1)
-one_filled rs m₀ m m' i r o f h b answer after next =
-    let n : Next m m' i o = fetched m m' i r o h answer after next in
+one_filled rs m₀ m m' i r o f b answer after next =
+    let n : Next m m' i o = fetched m m' i r o answer after next in
     let reg : register (set rs i o) i ≡ o = get_or-set_same rs i o None (omega (arith, f.registers_length)) in
     let off : (k : ℕ) → k ≢ i → register (set rs i o) k ≡ register rs k = λ k ne. get_or-set_other rs i k o None ne in
     let here : stage_lane (set rs i o) m' i ≡ lane_of m₀ i =
@@ -36,7 +39,7 @@ one_filled rs m₀ m m' i r o f h b answer after next =
       left = λ k l. let ne : k ≢ i = omega arith in (λ j. record { capacity = n.capacities k j; messages = n.there k ne j }) ∙ f.left k (omega arith);
     }
 
-module _ (rs : List (Option Message)) (m₀ m : List Lane) (i : ℕ) (f : Filled rs m₀ m i) (e : i ≡ length m₀) where
+module _ (rs : List (Option Message)) (m₀ m : List Lane) (i : ℕ) (f : Filled rs m₀ m i) (e : length m₀ ≤ i) where
   pub filled_same : stage_lanes rs m ≡ m₀
   filled_same = sym (lanes_are (length m) (stage_lane rs m) m₀ (sym f.count) (λ k h. sym (f.done k (omega (arith, f.count)))))
 
@@ -47,3 +50,24 @@ module _ (rs : List (Option Message)) (m₀ m : List Lane) (i : ℕ) (f : Filled
         register_first = λ k h. f.register_first k (omega (arith, f.count));
         fits = λ k h. let q = f.done k (omega (arith, f.count)) in omega (arith, ap (λ l. length l.messages) q, ap (λ l. l.capacity) q, s.fits k);
       }
+
+-- the first messages of the lanes below k are taken; past the last lane there is none
+module _ (b : Backing) (m₀ m m' : Model b) (k : ℕ) (r : Result Message FabricFault) (count : length m.lanes ≡ length m₀.lanes) (before : m ≡ firsts_taken b m₀ (min k (length m₀.lanes)))
+    (answer : r ≡ take_answer m.lanes k) (after : m' ≡ after_take b r m k) where
+  abbrev n : ℕ
+  n = length m₀.lanes
+
+  within : k < n → m' ≡ firsts_taken b m₀ (min (k + 1) n)
+  within h =
+      let low : min k n ≡ k = omega arith in
+      let d : m ≡ firsts_taken b m₀ k = before ∙ ap (firsts_taken b m₀) low in
+      let e : suc k ≡ min (k + 1) n = omega arith in
+      after ∙ ap (λ q. after_take b q m k) answer ∙ ap (λ (q : Model b). after_take b (take_answer q.lanes k) q k) d ∙ ap (firsts_taken b m₀) e
+
+  past : n ≤ k → m' ≡ firsts_taken b m₀ (min (k + 1) n)
+  past h =
+      let e : min k n ≡ min (k + 1) n = omega arith in
+      after ∙ ap (λ q. after_take b q m k) (answer ∙ answered.take_no_lane m.lanes k (omega (arith, count))) ∙ before ∙ ap (firsts_taken b m₀) e
+
+  pub firsts_more : m' ≡ firsts_taken b m₀ (min (k + 1) n)
+  firsts_more = ⊎_elim within past (cases_lt k n)

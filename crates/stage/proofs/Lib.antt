@@ -3,3 +3,4 @@ pub mod Behind
 pub mod Calls
 pub mod Fetches
 pub mod Filling
+pub mod Models

@@ -1,5 +1,4 @@
 pub mod Counts
-pub mod Feeds
 pub mod OnlyWritten
 pub mod Places
 pub mod ReadLines

@@ -1,17 +1,16 @@
 -- What is read as a board and its entries was written from them.
-use Rattle.std.proofs.Common.{◌≡◌, ℕ, zero, suc, ◌<◌, Bool, true, false, cond, ltb, leb, List, [], ◌∷◌, ◌++◌, length, take, Ok, Err, Result, sym, refl, ap, ◌∙◌, arith}
+use Rattle.std.proofs.Common.{◌≡◌, ℕ, zero, suc, ◌<◌, Bool, true, false, cond, ltb, leb, List, [], ◌∷◌, ◌++◌, length, take, decimal, Ok, Err, Result, refl, ap, ◌∙◌, arith}
 use Rattle.std.proofs.lemmas.Slice.Eq.{bytes_eq-Decides}
 use Rattle.std.specs.Str.{bytes_eq}
 use Rattle.words.specs.declared.fault.Fault.{Fault}
 use Rattle.sheet.specs.declared.line.Board.{Board}
-use Rattle.sheet.specs.Format.{Entry, header, size_limit, board_word, board_words, words_line, fabric_words, fabric_number, BoardFits}
-use Rattle.sheet.specs.Reading.{wanted, keyword_at, word_at, fabric_named, board_operands, board_of, board_line_at, opened, board_end, entries_from, reading, holds}
+use Rattle.sheet.specs.Format.{Entry, header, size_limit, board_word, board_words, words_line, word_of, fabric_word, BoardFits}
+use Rattle.sheet.specs.Reading.{wanted, keyword_at, word_at, fabric_words, fabric_named, board_operands, board_of, board_line_at, opened, board_end, entries_from, reading, holds}
 use Rattle.rules.specs.Sizes.{is_size}
 use Rattle.sheet.proofs.Ends.{followed_by_ok}
 use Rattle.verdict.specs.Laws.{OnlyWritten}
 use Rattle.verdict.proofs.ReadLines.{Throughout, LineRead, Makes, line_read, entries_read}
 use Rattle.verdict.proofs.ReadWords.{Stands, stands_as, taken_stands}
-use Rattle.verdict.proofs.Spelling.{spelled_all}
 
 -- a test with a fault on one side was passed on the other
 passed : {Y : Type 0} (t : Bool) (r : Result Y Fault) (f : Fault) (y : Y) → cond t r (Err f) ≡ Ok y → (t ≡ true) × (r ≡ Ok y)
@@ -22,17 +21,17 @@ avoided : {Y : Type 0} (t : Bool) (r : Result Y Fault) (f : Fault) (y : Y) → c
 avoided true r f y e = let z : ◌≡◌ {A = ℕ} 0 1 = cc in absurd (omega arith)
 avoided false r f y e = e
 
-fabric_back : (k : ℕ) → k < length fabric_words → fabric_number (fabric_named k) ≡ k
-fabric_back zero h = refl
-fabric_back (suc zero) h = refl
-fabric_back (suc (suc zero)) h = refl
-fabric_back (suc (suc (suc k))) h = absurd (omega arith)
+fabric_spelled : (k : ℕ) → k < length fabric_words → word_of fabric_words k ≡ fabric_word (fabric_named k)
+fabric_spelled zero h = refl
+fabric_spelled (suc zero) h = refl
+fabric_spelled (suc (suc zero)) h = refl
+fabric_spelled (suc (suc (suc k))) h = absurd (omega arith)
 
 abbrev board_line : Board → List ℕ
 board_line b = words_line (board_words b)
 
 board_written : Throughout board_operands (Makes board_line BoardFits board_word board_operands board_of)
-board_written x x_Fits y y_fits k k_fits = (ap (λ n. words_line (board_word ∷ spelled_all board_operands (x ∷ y ∷ n ∷ []))) (sym (fabric_back k k_fits)), (x_Fits, y_fits))
+board_written x x_Fits y y_fits k k_fits = (ap (λ w. words_line (board_word ∷ decimal x ∷ decimal y ∷ w ∷ [])) (fabric_spelled k k_fits), (x_Fits, y_fits))
 
 board_read : (s : List ℕ) (a : ℕ) (b : Board) → board_line_at s a ≡ Ok b → LineRead board_line BoardFits s a b
 board_read s a b read =

@@ -1,20 +1,21 @@
 -- What is found at a place of a sheet whose bytes from there on are known.
-use Rattle.std.proofs.Common.{◌≡◌, ℕ, suc, ◌+◌, ◌<◌, Bool, true, false, cond, eqb, List, [], ◌∷◌, ◌++◌, length, get_or, take, drop, Ok, Err, sym, refl, ap, ◌∙◌, add-zero, arith, length-drop}
+use Rattle.std.proofs.Common.{◌≡◌, ℕ, ◌+◌, ◌<◌, Bool, true, false, not, cond, eqb, List, [], ◌∷◌, ◌++◌, length, get_or, take, drop, Ok, Err, sym, refl, ap, ◌∙◌, add-zero, arith, length-drop}
+use Rattle.std.specs.List.{position_or_len}
 use Rattle.std.proofs.lemmas.List.{drop-drop, drop_at, take_at, get_or-drop}
 use Rattle.std.proofs.lemmas.Bool.{lt-leb}
 use Rattle.words.specs.declared.fault.FaultKind.TheVariants.{WordCount, NoLineFeed}
 use Rattle.words.specs.Faults.{fault}
 use Rattle.sheet.specs.Reading.{unless, wanted, line_ends, word_at, word_end}
-use Rattle.words.specs.Lengths.{line_feed, before, ends_word, word_length}
+use Rattle.words.specs.Lengths.{line_feed, ends_word, word_length}
 
 -- no byte of w passes the test
 abbrev pub Free : (ℕ → Bool) → List ℕ → Type 0
 Free stop [] = Unit {0}
 Free stop (b ∷ bs) = (stop b ≡ false) × Free stop bs
 
-pub before_free : (stop : ℕ → Bool) (w rest : List ℕ) → Free stop w → before stop (w ++ rest) ≡ length w + before stop rest
+pub before_free : (stop : ℕ → Bool) (w rest : List ℕ) → Free stop w → position_or_len stop (w ++ rest) ≡ length w + position_or_len stop rest
 before_free stop [] rest free = omega arith
-before_free stop (b ∷ bs) rest free = ap (λ t. cond t 0 (suc (before stop (bs ++ rest)))) free.0 ∙ omega (arith, before_free stop bs rest free.1)
+before_free stop (b ∷ bs) rest free = ap (λ t. cond (not t) (1 + position_or_len stop (bs ++ rest)) 0) free.0 ∙ omega (arith, before_free stop bs rest free.1)
 
 -- the rest of the sheet after its first n bytes from place a on
 pub drop_more : (s p q : List ℕ) (a : ℕ) → drop a s ≡ p ++ q → drop (a + length p) s ≡ q
@@ -43,7 +44,7 @@ module _ (s : List ℕ) (a c : ℕ) (t : List ℕ) (e : drop a s ≡ c ∷ t) wh
 -- a word that is followed by a byte that ends words
 module _ (s : List ℕ) (a : ℕ) (w : List ℕ) (c : ℕ) (t : List ℕ) (e : drop a s ≡ w ++ c ∷ t) (free : Free ends_word w) (ends : ends_word c ≡ true) where
   length_is : word_length (drop a s) ≡ length w
-  length_is = ap word_length e ∙ before_free ends_word w (c ∷ t) free ∙ ap (λ b. length w + cond b 0 (suc (word_length t))) ends ∙ add-zero (length w)
+  length_is = ap word_length e ∙ before_free ends_word w (c ∷ t) free ∙ ap (λ b. length w + cond (not b) (1 + word_length t) 0) ends ∙ add-zero (length w)
 
   pub word_is : word_at s a ≡ w
   word_is = ap (λ n. take n (drop a s)) length_is ∙ ap (take (length w)) e ∙ take_at w (c ∷ t) (length w) refl

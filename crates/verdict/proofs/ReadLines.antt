@@ -1,5 +1,7 @@
 -- What was read as lines was written from them.
 use Rattle.std.proofs.Common.{◌≡◌, ℕ, zero, suc, ◌+◌, ◌≤◌, Bool, true, false, cond, eqb, leb, List, [], ◌∷◌, ◌++◌, length, get_or, take, drop, Some, None, Ok, Err, Option, Result, refl, ap, ◌∙◌, subst, ⊎_elim, arith}
+use Rattle.std.proofs.Math.Numerals.{one-add}
+use Rattle.std.specs.List.{position_or_len}
 use Rattle.std.proofs.lemmas.Slice.Eq.{bytes_eq-Decides}
 use Rattle.std.proofs.lemmas.List.{drop_all}
 use Rattle.std.proofs.lemmas.Bool.{cases_Bool, eqb-true, leb-true}
@@ -11,7 +13,7 @@ use Rattle.sheet.specs.declared.op.Op.TheVariants.{Load, Store, Fence, Evict, Up
 use Rattle.sheet.specs.Format.{hash, words_line, Entry, a_call, a_note, entry_line, WellFormed, op_word}
 use Rattle.sheet.specs.Reading.{followed_by, wanted, line_ends, word_at, word_end, line_at, line_end, Operand, operands_at, operands_end, op_operands, op_of, call_of, call_at, note_at, entry_at, next_at, and_then, entries_from}
 use Rattle.sheet.proofs.Ends.{followed_by_ok, wanted_within, operands_line, line_end_of_word}
-use Rattle.words.specs.Lengths.{before, word_length, line_length}
+use Rattle.words.specs.Lengths.{word_length, line_length}
 use Rattle.verdict.proofs.ReadWords.{Stands, stands_on, stands_as, taken_stands, byte_stands, word_stops, feed_stands, operands_read}
 use Rattle.verdict.proofs.Spelling.{Fit, spelled_all, Fits}
 
@@ -66,12 +68,12 @@ call_written Up = λ x x_Fits. (refl, x_Fits)
 call_written Down = λ x x_Fits. (refl, x_Fits)
 
 -- no byte before the first that stops does
-none_before : (stop : ℕ → Bool) (d : List ℕ) → before stop (take (before stop d) d) ≡ length (take (before stop d) d)
+none_before : (stop : ℕ → Bool) (d : List ℕ) → position_or_len stop (take (position_or_len stop d) d) ≡ length (take (position_or_len stop d) d)
 none_before stop [] = refl
 none_before stop (b ∷ bs) =
     ⊎_elim
     (λ (e : stop b ≡ true). simp e)
-    (λ (e : stop b ≡ false). simp e (ap suc (none_before stop bs)))
+    (λ (e : stop b ≡ false). simp (e, one-add) (ap suc (none_before stop bs)))
     (cases_Bool (stop b))
 
 abbrev EntryRead : List ℕ → ℕ → Entry → Type 0
@@ -85,7 +87,7 @@ module _ (s : List ℕ) (a : ℕ) where
       let byte = byte_stands s a hash (wanted_within s a here).0 (eqb-true (get_or s a 0) hash first) in
       subst (EntryRead s a) is (
         stands_on (taken_stands (line_length (drop a s)) s a) (feed_stands s (line_end s a) one.1),
-        (ap (λ d. get_or (take (line_length d) d) 0 0) byte.bytes, none_before _ (drop a s)),
+        (ap (λ d. get_or (take (line_length d) d) 0 0) byte.bytes ∙ ap (λ n. get_or (take n (hash ∷ drop (a + 1) s)) 0 0) (one-add _), none_before _ (drop a s)),
       )
 
   call_read : (e : Entry) (o : Option Op) → op_of (word_at s a) ≡ o → call_at s a o ≡ Ok e → EntryRead s a e

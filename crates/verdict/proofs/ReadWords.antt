@@ -1,18 +1,20 @@
 -- What was read as operands was written from them.
-use Rattle.std.proofs.Common.{◌≡◌, ℕ, suc, ◌+◌, ◌<◌, ◌≤◌, Bool, true, false, cond, ◌&&◌, eqb, leb, List, [], ◌∷◌, ◌++◌, length, get_or, take, drop, Some, None, Ok, decimal, Option, sym, refl, ap, ◌∙◌, subst, ⊎_elim, arith, rules}
+use Rattle.std.proofs.Common.{◌≡◌, ℕ, suc, ◌+◌, ◌<◌, ◌≤◌, Bool, true, false, cond, ◌&&◌, eqb, leb, List, [], ◌∷◌, ◌++◌, length, get_or, take, drop, Some, None, Ok, decimal, Option, sym, refl, ap, ◌∙◌, subst, ⊎_elim, arith}
 use Rattle.std.proofs.lemmas.Fmt.{decimal-digits_value}
 use Rattle.std.proofs.lemmas.Slice.Eq.{bytes_eq-Decides}
 use Rattle.std.proofs.lemmas.List.{append_assoc, take-append-drop, drop-drop, drop_more, get_or-drop, length-drop}
+use Rattle.std.proofs.lemmas.List.Sums.{passes_at_first}
 use Rattle.std.proofs.lemmas.Bool.{cases_Bool, or_cases, eqb-true, both_ways, and_parts, leb-true}
 use Rattle.std.specs.Option.{option_map}
-use Rattle.std.specs.Str.{all_ascii_digits, bytes_eq}
+use Rattle.std.specs.Str.{bytes_eq}
 use Rattle.words.specs.declared.fault.FaultKind.{FaultKind}
-use Rattle.sheet.specs.Format.{word_of, after_word, strength_words, fabric_words}
-use Rattle.sheet.specs.Reading.{wanted, line_ends, word_at, word_end, index_of, Operand, a_number, a_strength, a_fabric, operand_of, not_an, known, operand_at, operand_end, operands_at, operands_end}
+use Rattle.sheet.specs.Format.{word_of, after_word, strength_words}
+use Rattle.sheet.specs.Reading.{wanted, line_ends, word_at, word_end, fabric_words, index_of, Operand, a_number, a_strength, a_fabric, operand_of, not_an, known, operand_at, operand_end, operands_at, operands_end}
 use Rattle.sheet.proofs.Ends.{followed_by_ok, wanted_within, ends_within}
-use Rattle.words.specs.Lengths.{space, line_feed, ends_word, before, word_length}
+use Rattle.words.specs.Lengths.{space, line_feed, ends_word, word_length}
 use Rattle.words.specs.Numbers.{largest, plain, value_after, number_of}
-use Rattle.verdict.proofs.Spelling.{own, spelled, Fit, spelled_all, Fits}
+use Rattle.words.proofs.Digits.{own, plain_digits}
+use Rattle.verdict.proofs.Spelling.{spelled, Fit, spelled_all, Fits}
 
 -- t stands in the sheet s from place a to place b
 pub record Stands (s : List ℕ) (a : ℕ) (t : List ℕ) (b : ℕ) : Type 0 where
@@ -35,17 +37,9 @@ byte_stands s a c h is = record { bytes = drop_more s a 0 h ∙ ap (λ x. x ∷ 
 abbrev pub Stops : List ℕ → ℕ → Type 0
 Stops s a = a < length s → ends_word (get_or s a 0) ≡ true
 
-first_stop : (stop : ℕ → Bool) (d : List ℕ) → before stop d < length d → stop (get_or d (before stop d) 0) ≡ true
-first_stop stop [] h = absurd (omega arith)
-first_stop stop (b ∷ bs) h =
-    ⊎_elim
-    (λ (e : stop b ≡ true). simp e)
-    (λ (e : stop b ≡ false). simp e (first_stop stop bs (omega (arith, simp e at h))))
-    (cases_Bool (stop b))
-
 pub word_stops : (s : List ℕ) (a : ℕ) → Stops s (word_end s a)
 word_stops s a h =
-    ap ends_word (sym (get_or-drop a s (word_length (drop a s)) 0)) ∙ first_stop ends_word (drop a s) (omega (arith, length-drop a s))
+    ap ends_word (sym (get_or-drop a s (word_length (drop a s)) 0)) ∙ passes_at_first ends_word (drop a s) 0 (omega (arith, length-drop a s))
 
 module _ (s : List ℕ) (a : ℕ) where
   space_stands : Stops s a → wanted s a ≡ Ok tt → Stands s a (space ∷ []) (a + 1)
@@ -55,11 +49,6 @@ module _ (s : List ℕ) (a : ℕ) where
 
   pub feed_stands : line_ends s a ≡ Ok tt → Stands s a (line_feed ∷ []) (a + 1)
   feed_stands e = let w = ends_within s a e in byte_stands s a line_feed w.0 (eqb-true (get_or s a 0) line_feed w.1)
-
-plain_digits : (w : List ℕ) → plain w ≡ true → (all_ascii_digits w ≡ true) × (0 < length w) × (get_or w 0 0 ≡ 48 → length w ≡ 1)
-plain_digits [] e = search rules
-plain_digits (c ∷ []) e = search rules
-plain_digits (c ∷ d ∷ ds) e = search rules
 
 number_found : (w : List ℕ) (v : ℕ) → number_of w ≡ Some v → (w ≡ decimal v) × (v ≤ largest)
 number_found w v e =

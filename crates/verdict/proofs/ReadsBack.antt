@@ -1,5 +1,5 @@
 -- A well-formed sheet is read as what it was written from.
-use Rattle.std.proofs.Common.{◌≡◌, ℕ, zero, suc, ◌+◌, ◌<◌, ◌≤◌, Bool, true, false, cond, eqb, List, [], ◌∷◌, ◌++◌, length, get_or, take, drop, Some, None, Ok, Err, Result, sym, refl, ap, ◌∙◌, subst, ⊎_elim, append_assoc, arith, length-append, length-drop}
+use Rattle.std.proofs.Common.{◌≡◌, ℕ, zero, suc, ◌+◌, ◌<◌, ◌≤◌, Bool, true, false, not, cond, eqb, List, [], ◌∷◌, ◌++◌, length, get_or, take, drop, decimal, Some, None, Ok, Err, Result, sym, refl, ap, ◌∙◌, subst, ⊎_elim, append_assoc, arith, length-append, length-drop}
 use Rattle.std.proofs.lemmas.List.{take_at}
 use Rattle.std.proofs.lemmas.Bool.{cases_Bool, or_parts, le-leb, lt-leb, le-ltb}
 use Rattle.std.specs.List.{flat_map, AllByRecursion}
@@ -13,8 +13,8 @@ use Rattle.sheet.specs.declared.line.FabricName.TheVariants.{Ring, Frames, Stage
 use Rattle.sheet.specs.declared.op.Op.{Op}
 use Rattle.sheet.specs.declared.op.Op.TheVariants.{Load, Store, Fence, Evict, Up, Down}
 use Rattle.words.specs.Faults.{fault}
-use Rattle.sheet.specs.Format.{header, size_limit, hash, fabric_words, fabric_number, board_word, board_words, after_word, words_line, Entry, a_call, a_note, entry_line, WellFormed, BoardFits, op_word}
-use Rattle.sheet.specs.Reading.{followed_by, unless, wanted, word_at, word_end, Operand, operand_of, operand_at, operand_end, operands_at, known, not_an, op_operands, call_of, op_of, call_at, note_at, line_at, line_end, entry_at, and_then, entries_from, fabric_named, board_operands, board_of, board_line_at, board_at, board_end, opened, wrong_board, entries_of, with_board}
+use Rattle.sheet.specs.Format.{header, size_limit, hash, fabric_word, word_of, board_word, after_word, words_line, Entry, a_call, a_note, entry_line, WellFormed, BoardFits, op_word}
+use Rattle.sheet.specs.Reading.{followed_by, unless, wanted, word_at, word_end, Operand, operand_of, operand_at, operand_end, operands_at, known, not_an, op_operands, call_of, op_of, call_at, note_at, line_at, line_end, entry_at, and_then, entries_from, fabric_words, fabric_named, board_operands, board_of, board_line_at, board_at, board_end, opened, wrong_board, entries_of, with_board}
 use Rattle.rules.specs.Sizes.{is_size}
 use Rattle.verdict.specs.Laws.{ReadsBack}
 use Rattle.sheet.proofs.Calls.{initial}
@@ -164,8 +164,8 @@ free_from : (text : List ℕ) → line_length text ≡ length text → Free ends
 free_from [] e = tt
 free_from (b ∷ bs) e =
     ⊎_elim
-    (λ h. absurd (omega (arith, ap (λ u. cond u 0 (suc (line_length bs))) h)))
-    (λ h. (h, free_from bs (omega (arith, ap (λ u. cond u 0 (suc (line_length bs))) h))))
+    (λ h. absurd (omega (arith, ap (λ u. cond (not u) (1 + line_length bs) 0) h)))
+    (λ h. (h, free_from bs (omega (arith, ap (λ u. cond (not u) (1 + line_length bs) 0) h))))
     (cases_Bool (ends_line b))
 
 module _ (s : List ℕ) (a : ℕ) (b : ℕ) (bs t : List ℕ) (mark : b ≡ hash) (free : Free ends_line (b ∷ bs)) (e : drop a s ≡ (b ∷ bs) ++ line_feed ∷ t) where
@@ -222,8 +222,18 @@ entries_read (e ∷ es) (suc k) s a well enough d =
     (entries_read es k s (line_end s a + 1) well.1 (omega arith) (ap (λ n. drop n s) one.1 ∙ places.drop_more s (entry_line e) (flat_map entry_line es) a d))
 
 -- the board line
+abbrev fabric_number : FabricName → ℕ
+fabric_number Ring = 0
+fabric_number Frames = 1
+fabric_number Staged = 2
+
 abbrev values : Board → List ℕ
 values b = b.shims ∷ b.lines ∷ fabric_number b.fabric ∷ []
+
+fabric_spelled : (f : FabricName) → fabric_word f ≡ word_of fabric_words (fabric_number f)
+fabric_spelled Ring = refl
+fabric_spelled Frames = refl
+fabric_spelled Staged = refl
 
 fabric_fits : (f : FabricName) → fabric_number f < length fabric_words
 fabric_fits Ring = omega arith
@@ -235,7 +245,7 @@ fabric_back Ring = refl
 fabric_back Frames = refl
 fabric_back Staged = refl
 
-module _ (s : List ℕ) (a : ℕ) (b : Board) (t : List ℕ) (fit : BoardFits b) (e : drop a s ≡ words_line (board_words b) ++ t) where
+module _ (s : List ℕ) (a : ℕ) (b : Board) (t : List ℕ) (fit : BoardFits b) (e : drop a s ≡ words_line (board_word ∷ spelled_all board_operands (values b)) ++ t) where
   fits : Fits board_operands (values b)
   fits = (fit.0, (fit.1, (fabric_fits b.fabric, tt)))
 
@@ -253,18 +263,20 @@ module _ (s : List ℕ) (a : ℕ) (b : Board) (t : List ℕ) (fit : BoardFits b)
       ∙ ap (λ (r : Result (List ℕ) Fault). followed_by r (λ vs. Ok (board_of vs))) (operands_read board_operands (values b) s (word_end s a) t fits (word_after s a (get_or board_word 0 0) (drop 1 board_word) bs t e free))
       ∙ ap (λ (f : FabricName). Ok (record { shims = b.shims; lines = b.lines; fabric = f })) (fabric_back b.fabric)
 
-  board_ends : line_end s a + 1 ≡ a + length (words_line (board_words b))
+  board_ends : line_end s a + 1 ≡ a + length (words_line (board_word ∷ bs))
   board_ends = omega (arith, ap line_length e, words_length board_word bs t free (all_free board_operands (values b) fits))
 
 pub reads_back : (s : List ℕ) → ReadsBack s
 reads_back s b es w small =
     let rest : List ℕ = flat_map entry_line es in
-    let line : drop (length header) s ≡ words_line (board_words b) ++ flat_map entry_line es = ap (drop (length header)) w.bytes in
+    let words : List ℕ = words_line (board_word ∷ spelled_all board_operands (values b)) in
+    let line : drop (length header) s ≡ words ++ flat_map entry_line es =
+    ap (drop (length header)) w.bytes ∙ ap (λ f. words_line (board_word ∷ decimal b.shims ∷ decimal b.lines ∷ f ∷ []) ++ flat_map entry_line es) (fabric_spelled b.fabric) in
     let board : opened s ≡ Ok b =
     ap (λ (u : Bool). cond u (Err (fault TooLong size_limit)) (cond (bytes_eq (take (length header) s) header) (board_at s (length header)) (Err (fault Header 0)))) (le-ltb size_limit (length s) small)
     ∙ ap (λ u. cond (bytes_eq (take (length header) u) header) (board_at s (length header)) (Err (fault Header 0))) w.bytes
     ∙ board_read s (length header) b (flat_map entry_line es) w.board line in
     let entries : entries_from (length s) s (board_end s) ≡ Ok es =
     entries_read es (length s) s (board_end s) w.entries (omega arith)
-    (ap (λ n. drop n s) (board_ends s (length header) b (flat_map entry_line es) w.board line) ∙ places.drop_more s (words_line (board_words b)) (flat_map entry_line es) (length header) line) in
+    (ap (λ n. drop n s) (board_ends s (length header) b (flat_map entry_line es) w.board line) ∙ places.drop_more s words (flat_map entry_line es) (length header) line) in
     ap (with_board s) board ∙ ap (λ (r : Result (List Entry) Fault). cond (is_size b.shims b.lines) (entries_of b r) wrong_board) entries

@@ -1,13 +1,13 @@
 -- The words of operands.
 use Rattle.std.proofs.Common.{◌≡◌, ℕ, zero, suc, ◌^◌, ◌<◌, ◌≤◌, true, false, cond, ◌&&◌, ltb, leb, List, [], ◌∷◌, length, get_or, Some, None, decimal, refl, ap, ◌∙◌, ⊎_elim, arith, rules}
 use Rattle.std.proofs.lemmas.Fmt.{decimal_digit, digits_decimal, digits_value-decimal, decimal_nonempty, first_decimal}
-use Rattle.std.proofs.lemmas.Str.Parse.{IsNumeralModel, numerals_by_fold, tells_all_ascii_digits}
 use Rattle.std.proofs.lemmas.Bool.{and_parts, and_from, lt-ltb, le-leb, cases_eq}
 use Rattle.std.specs.Char.{is_ascii_digit}
 use Rattle.std.specs.Str.{all_ascii_digits}
-use Rattle.sheet.specs.Format.{strength_words, fabric_words, word_of}
-use Rattle.sheet.specs.Reading.{Operand, a_number, a_strength, a_fabric, operand_of}
+use Rattle.sheet.specs.Format.{strength_words, word_of}
+use Rattle.sheet.specs.Reading.{fabric_words, Operand, a_number, a_strength, a_fabric, operand_of}
 use Rattle.verdict.proofs.Places.{Free}
+use Rattle.words.proofs.Digits.{own}
 use Rattle.words.specs.Lengths.{ends_word}
 use Rattle.words.specs.Numbers.{largest, plain, value_after, number_of}
 
@@ -34,10 +34,6 @@ Fits [] [] = Unit {0}
 Fits [] (v ∷ vs) = ⊥
 Fits (o ∷ os) [] = ⊥
 Fits (o ∷ os) (v ∷ vs) = Fit o v × Fits os vs
-
--- numbers are read digit by digit
-pub own : IsNumeralModel (λ ds. all_ascii_digits ds ≡ true) (value_after 0)
-own = numerals_by_fold (λ ds. all_ascii_digits ds ≡ true) tells_all_ascii_digits value_after (search rules)
 
 digits_free : (w : List ℕ) → all_ascii_digits w ≡ true → Free ends_word w
 digits_free [] e = tt

@@ -6,5 +6,5 @@ mod printer;
 mod verdict;
 
 pub use checker::{check, line_number};
-pub use printer::{put_number, put_verdict, report};
-pub use verdict::Verdict;
+pub use printer::{put_verdict, report};
+pub use verdict::{Flaw, Verdict};

@@ -1,5 +1,6 @@
 -- Where words and lines end.
-use Rattle.std.specs.Prelude.{ℕ, suc, Bool, cond, ◌||◌, List, [], ◌∷◌, ◌==◌}
+use Rattle.std.specs.Prelude.{ℕ, Bool, ◌||◌, List, ◌==◌}
+use Rattle.std.specs.List.{position_or_len}
 
 abbrev pub space : ℕ
 space = 32
@@ -14,13 +15,9 @@ ends_word b = b == space || b == line_feed
 abbrev pub ends_line : ℕ → Bool
 ends_line b = b == line_feed
 
--- how many bytes stand before the first one that passes the test
-abbrev pub before : (ℕ → Bool) → List ℕ → ℕ
-before stop [] = 0
-before stop (b ∷ bs) = cond (stop b) 0 (suc (before stop bs))
-
+-- how many bytes stand before the end of the word, or of the line, that begins here: all, where nothing ends it
 abbrev pub word_length : List ℕ → ℕ
-word_length bs = before ends_word bs
+word_length bs = position_or_len ends_word bs
 
 abbrev pub line_length : List ℕ → ℕ
-line_length bs = before ends_line bs
+line_length bs = position_or_len ends_line bs

@@ -1,33 +1,35 @@
 ghost use Rattle.std.specs.Prelude.{◌≡◌};
-ghost use Rattle.words.specs.Faults.{fault_number};
+ghost use Rattle.words.specs.Faults.{fault, fault_number};
 
-// What is wrong with a sheet.
+// What is wrong with a sheet, with the number that a verdict tells.
 #[derive(Clone, Copy)]
 pub enum FaultKind {
     // it does not begin with the header
-    Header,
+    Header = 31,
     // a word that is not wanted at its place
-    UnknownWord,
-    NotANumber,
+    UnknownWord = 32,
+    NotANumber = 33,
     // the line stops early or goes on
-    WordCount,
+    WordCount = 34,
     // the last line has no line feed
-    NoLineFeed,
-    TooLong,
+    NoLineFeed = 35,
+    TooLong = 36,
 }
 
 impl FaultKind {
-    pub fn number(self) -> u8
-        ensures { result ≡ fault_number self }
+    // The fault of this kind at a place.
+    pub fn at(self, place: usize) -> Fault
+        ensures { result ≡ fault self place }
     {
-        match self {
-            FaultKind::Header => 31,
-            FaultKind::UnknownWord => 32,
-            FaultKind::NotANumber => 33,
-            FaultKind::WordCount => 34,
-            FaultKind::NoLineFeed => 35,
-            FaultKind::TooLong => 36,
-        }
+        Fault { kind: self, place }
+    }
+}
+
+impl From<FaultKind> for u8 {
+    ghost from_gives = { λ kind n. n ≡ fault_number kind };
+
+    fn from(kind: FaultKind) -> u8 {
+        kind as u8
     }
 }
 

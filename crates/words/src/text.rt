@@ -1,6 +1,10 @@
 ghost use Rattle.std.specs.Prelude.{◌≡◌, ◌≤◌, length};
+ghost use Rattle.std.specs.Char.{is_ascii_digit};
+ghost use Rattle.std.specs.List.{list_all};
 ghost use Rattle.words.specs.Lengths.{ends_line, ends_word, line_length, word_length};
-ghost use Rattle.words.specs.Numbers.{number_of};
+ghost use Rattle.words.specs.Numbers.{number_of, plain};
+
+use std::str;
 
 // Whether a word ends before this byte.
 fn ends_word(b: u8) -> bool
@@ -21,12 +25,7 @@ pub fn word_length(text: &[u8]) -> usize
     ensures value { result ≡ word_length text.now }
     ensures bound { result ≤ length text.now }
 {
-    for (i, b) in text.iter().enumerate() {
-        if ends_word(*b) {
-            return i;
-        }
-    }
-    text.len()
+    text.iter().take_while(|b| !ends_word(**b)).count()
 }
 
 // How many bytes a line has that begins where `text` does: those before a line feed or the end.
@@ -34,27 +33,32 @@ pub fn line_length(text: &[u8]) -> usize
     ensures value { result ≡ line_length text.now }
     ensures bound { result ≤ length text.now }
 {
-    for (i, b) in text.iter().enumerate() {
-        if ends_line(*b) {
-            return i;
-        }
+    text.iter().take_while(|b| !ends_line(**b)).count()
+}
+
+// Whether all bytes are decimal digits.
+fn all_digits(word: &[u8]) -> bool
+    ensures { result ≡ list_all is_ascii_digit word.now }
+{
+    word.iter().all(|b| b.is_ascii_digit())
+}
+
+// Whether a word is one digit, or several with no zero in front.
+fn is_plain(word: &[u8]) -> bool
+    ensures { result ≡ plain word.now }
+{
+    match word {
+        [] | [b'0', _, ..] => false,
+        _ => all_digits(word),
     }
-    text.len()
 }
 
 // The number that a word writes in decimal, with no zero in front, where it is one from 0 to 4294967295.
 pub fn number(word: &[u8]) -> Option<u32>
     ensures { result ≡ number_of word.now }
 {
-    if word.is_empty() || (word.len() > 1 && word[0] == b'0') {
+    if !is_plain(word) {
         return None;
     }
-    let mut value = 0u32;
-    for b in word {
-        if !b.is_ascii_digit() {
-            return None;
-        }
-        value = value.checked_mul(10)?.checked_add(u32::from(*b - b'0'))?;
-    }
-    Some(value)
+    str::from_utf8(word).ok()?.parse().ok()
 }

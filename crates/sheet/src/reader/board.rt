@@ -1,4 +1,5 @@
 ghost use Rattle.std.specs.Prelude.{◌≡◌, is_ok, if◌then◌else◌, Ok, OnOk};
+ghost use Rattle.sheet.specs.Moves.{MovedTo};
 ghost use Rattle.sheet.specs.Reading.{followed_by, word_end, operands_at, operands_end, board_operands, board_of, board_at, board_end, opened};
 
 use crate::line::Board;
@@ -22,30 +23,24 @@ impl<'a> Reader<'a> {
     // The board whose operands follow the word that ends here.
     fn board_operands(&mut self) -> Result<Board, Fault>
         ensures value { result ≡ followed_by (operands_at board_operands self.old.sheet.now self.old.at) (λ vs. Ok (board_of vs)) }
-        ensures after { OnOk result (self.new.at ≡ operands_end board_operands self.old.sheet.now self.old.at) }
-        ensures sheet { self.new.sheet ≡ self.old.sheet }
+        ensures after { OnOk result (MovedTo self.old self.new (operands_end board_operands self.old.sheet.now self.old.at)) }
     {
-        let shims = self.number()?;
-        let lines = self.number()?;
-        let fabric = self.fabric()?;
-        self.ended(Board {
-            shims,
-            lines,
-            fabric,
-        })
+        let board = Board {
+            shims: self.number()?,
+            lines: self.number()?,
+            fabric: self.fabric()?,
+        };
+        self.end_line()?;
+        Ok(board)
     }
 
     // The board line, which begins here.
     fn board_line(&mut self) -> Result<Board, Fault>
         ensures value { result ≡ board_at self.old.sheet.now self.old.at }
-        ensures after { OnOk result (self.new.at ≡ operands_end board_operands self.old.sheet.now (word_end self.old.sheet.now self.old.at)) }
-        ensures sheet { self.new.sheet ≡ self.old.sheet }
+        ensures after { OnOk result (MovedTo self.old self.new (operands_end board_operands self.old.sheet.now (word_end self.old.sheet.now self.old.at))) }
     {
         if self.at >= self.sheet.len() {
-            return Err(Fault {
-                kind: FaultKind::WordCount,
-                place: self.sheet.len(),
-            });
+            return Err(FaultKind::WordCount.at(self.sheet.len()));
         }
         self.keyword(b"board")?;
         self.board_operands()
@@ -60,16 +55,10 @@ impl<'a> Reader<'a> {
     {
         let sheet = self.sheet;
         if sheet.len() > SIZE_LIMIT {
-            return Err(Fault {
-                kind: FaultKind::TooLong,
-                place: SIZE_LIMIT,
-            });
+            return Err(FaultKind::TooLong.at(SIZE_LIMIT));
         }
         if !sheet.starts_with(HEADER) {
-            return Err(Fault {
-                kind: FaultKind::Header,
-                place: 0,
-            });
+            return Err(FaultKind::Header.at(0));
         }
         let mut ahead = Reader {
             sheet,

@@ -1,11 +1,11 @@
-ghost use Rattle.std.specs.Prelude.{◌≡◌, slice_index};
+ghost use Rattle.std.specs.Prelude.{◌≡◌, OnOk, slice_index};
 ghost use Rattle.sheet.specs.Format.{hash};
 ghost use Rattle.sheet.specs.Lines.{LineAt, NextLine};
 
 use crate::line::Line;
 use crate::op::Op;
 use crate::reader::Reader;
-use crate::token::Token;
+use crate::token::TokenKind;
 use words::{Fault, FaultKind};
 
 impl<'a> Reader<'a> {
@@ -13,21 +13,21 @@ impl<'a> Reader<'a> {
     fn note(&mut self) -> Result<Line<'a>, Fault>
         requires { slice_index self.old.sheet.now self.old.at ≡ hash }
         ensures line { LineAt self.old.sheet self.old.at result self.new.at }
-        ensures sheet { self.new.sheet ≡ self.old.sheet }
+        ensures sheet { OnOk result (self.new.sheet ≡ self.old.sheet) }
     {
-        match self.token()? {
-            Token::Note { text, .. } => {
+        match self.token()?.kind {
+            TokenKind::Note(text) => {
                 self.end_line()?;
                 Ok(Line::Note(text))
             }
-            Token::Keyword { .. } | Token::Number { .. } => unreachable(),
+            TokenKind::Keyword(_) | TokenKind::Number(_) => unreachable(),
         }
     }
 
     // The line that begins here. Its first byte, as a char, decides what it can be; the bytes then confirm it.
     fn line(&mut self) -> Result<Line<'a>, Fault>
         ensures line { LineAt self.old.sheet self.old.at result self.new.at }
-        ensures sheet { self.new.sheet ≡ self.old.sheet }
+        ensures sheet { OnOk result (self.new.sheet ≡ self.old.sheet) }
     {
         self.wanted()?;
         match self.sheet[self.at] as char {
@@ -38,10 +38,7 @@ impl<'a> Reader<'a> {
             'u' => self.call(Op::Up),
             'd' => self.call(Op::Down),
             '#' => self.note(),
-            _ => Err(Fault {
-                kind: FaultKind::UnknownWord,
-                place: self.at,
-            }),
+            _ => Err(FaultKind::UnknownWord.at(self.at)),
         }
     }
 

@@ -4,12 +4,14 @@ use Rattle.rules.specs.Calls.{run_rule}
 use Rattle.run.proofs.Loop.{with_rest}
 use Rattle.run.proofs.run.run_events.Given as goal
 
-abbrev pub invariant-loop-i : goal.invariant-loop-i
-invariant-loop-i g l =
+abbrev pub invariant-loop-event : goal.invariant-loop-event
+invariant-loop-event g l =
     let ω = g.F.Fabric.backing in
     let model = g.F.Fabric.model in
-    g.F.Fabric.lawful l.fabric
-    × (g.F.Fabric.lender l.fabric ≡ g.F.Fabric.lender l.initial.fabric)
-    × (l.board.size ≡ l.initial.board.size)
-    × (with_rest ω l.initial.board.size (take l.i l.events) l.board.state (model l.fabric) (drop l.i l.events)
-    ≡ run_rule ω l.initial.board.size l.initial.board.state (model l.initial.fabric) l.initial.events)
+    record {
+      lender : g.F.Fabric.lender l.fabric ≡ g.F.Fabric.lender l.initial.fabric;
+      size : l.board.size ≡ l.initial.board.size;
+      so_far :
+          with_rest ω l.initial.board.size (take l.event-index l.events) l.board.state (model l.fabric) (drop l.event-index l.events)
+          ≡ run_rule ω l.initial.board.size l.initial.board.state (model l.initial.fabric) l.initial.events;
+    }

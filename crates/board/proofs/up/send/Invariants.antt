@@ -1,9 +1,0 @@
-use Rattle.std.proofs.Common.{◌≡◌}
-use Rattle.rules.specs.Up.{send_all, sent_by}
-use Rattle.board.proofs.up.send.Given as goal
-
-abbrev pub invariant-loop-shim : goal.invariant-loop-shim
-invariant-loop-shim g l =
-    g.F.Fabric.lawful l.fabric
-    × (g.F.Fabric.model l.fabric ≡ send_all g.F.Fabric.backing (λ j. sent_by l.hub l.msg j l.kind) (g.F.Fabric.model l.initial.fabric) l.shim)
-    × (g.F.Fabric.lender l.fabric ≡ g.F.Fabric.lender l.initial.fabric)

@@ -1,0 +1,3 @@
+pub mod Rows
+pub mod Slots
+pub mod Sound

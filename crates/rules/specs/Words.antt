@@ -1,0 +1,33 @@
+-- The words of kinds, answers and refusals, byte by byte.
+use Rattle.std.specs.Prelude.{ℕ, List, [], ◌∷◌, ◌++◌, codes, decimal}
+use Rattle.rules.specs.Refusals.{refusal_number, refusal_carries}
+use Rattle.rules.specs.declared.answer.Answer.{Answer}
+use Rattle.rules.specs.declared.answer.Answer.TheVariants.{Done, Waits, Value, Ended, Handled}
+use Rattle.rules.specs.declared.kind.Kind.{Kind}
+use Rattle.rules.specs.declared.kind.Kind.TheVariants.{Write, ReadRequest, ReadResponse, FenceRequest, FenceResponse, WriteAck, Drop}
+use Rattle.rules.specs.declared.refusal.Refusal.{Refusal}
+
+abbrev pub kind_word : Kind → List ℕ
+kind_word Write = codes "WRITE"
+kind_word ReadRequest = codes "RREQ"
+kind_word ReadResponse = codes "RRESP"
+kind_word FenceRequest = codes "FREQ"
+kind_word FenceResponse = codes "FRESP"
+kind_word WriteAck = codes "WRITE_ACK"
+kind_word Drop = codes "DROP"
+
+-- numbers, with a space before each
+abbrev pub spaced : List ℕ → List ℕ
+spaced [] = []
+spaced (n ∷ ns) = codes " " ++ (decimal n ++ spaced ns)
+
+abbrev pub answer_bytes : Answer → List ℕ
+answer_bytes Done = codes "done"
+answer_bytes Waits = codes "waits"
+answer_bytes (Value w) = codes "value " ++ decimal w
+answer_bytes Ended = codes "ended"
+answer_bytes (Handled k) = kind_word k
+
+-- the refusal's number and what it carries
+abbrev pub refusal_bytes : Refusal → List ℕ
+refusal_bytes e = decimal (refusal_number e) ++ spaced (refusal_carries e)

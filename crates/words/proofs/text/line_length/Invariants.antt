@@ -1,6 +1,0 @@
-use Rattle.std.proofs.Common.{◌≡◌, ◌+◌, drop}
-use Rattle.words.specs.Lengths.{line_length}
-use Rattle.words.proofs.text.line_length.Given as goal
-
-abbrev pub invariant-loop-i : goal.invariant-loop-i
-invariant-loop-i l = l.i + line_length (drop l.i l.text) ≡ line_length l.text
