@@ -1,3 +1,4 @@
+mod Defaults
 mod Deliveries
 pub mod Firsts
 mod Passing

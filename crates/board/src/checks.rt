@@ -1,7 +1,6 @@
-ghost use Rattle.std.specs.Prelude.{◌≡◌, ◌+◌, ◌*◌, ◌<◌, not, [], ◌∷◌};
+ghost use Rattle.std.specs.Prelude.{◌≡◌, ◌+◌, ◌*◌, ◌<◌, [], ◌∷◌};
 ghost use Rattle.rules.specs.Refusals.{passing};
-ghost use Rattle.rules.specs.Checks.{wrong_lanes, no_shim, no_line, message_checks, first_on};
-ghost use Rattle.rules.specs.State.{is_ready, wait_at};
+ghost use Rattle.rules.specs.Checks.{wrong_lanes, no_shim, no_line, shim_waits, message_checks, first_on};
 
 use crate::board::Board;
 use crate::lanes::lane_count;
@@ -57,11 +56,14 @@ impl Board {
         Ok(fabric.look(lane)?)
     }
 
-    // Whether the shim waits for an answer.
-    pub(crate) fn waits(&self, shim: usize) -> bool
+    // Refuses where the shim waits for an answer.
+    pub(crate) fn ready(&self, shim: usize) -> Result<(), Refusal>
         requires { shim < self.now.size.shims }
-        ensures { result ≡ not (is_ready (wait_at self.now.state shim)) }
+        ensures { result ≡ passing (shim_waits self.now.state shim ∷ []) tt }
     {
-        self.state.shims[shim].wait.is_some()
+        match self.state.shims[shim].wait {
+            None => Ok(()),
+            Some(_) => Err(Refusal::ShimWaits),
+        }
     }
 }

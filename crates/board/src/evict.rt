@@ -14,9 +14,7 @@ impl Board {
         ensures rule { left result self.new (F.Fabric.model fabric.new) ≡ called self.old (F.Fabric.model fabric.old) (Evict shim line) }
     {
         let (s, x) = self.place(fabric, shim, line)?;
-        if self.waits(s) {
-            return Err(Refusal::ShimWaits);
-        }
+        self.ready(s)?;
         let held = self.state.shims[s].lines[x].ok_or(Refusal::NotHeld)?;
         if !held.settled {
             return Err(Refusal::Unsettled);

@@ -15,9 +15,7 @@ impl Board {
     {
         let s = self.shim(fabric, shim)?;
         Strength::fitting(Access::Fence, strength).ok_or(Refusal::WrongStrength)?;
-        if self.waits(s) {
-            return Err(Refusal::ShimWaits);
-        }
+        self.ready(s)?;
         fabric.put(up_lane(s), fence_request(s as u8))?;
         self.state.shims[s].wait = Some(Wait::Fence);
         Ok(Answer::Waits)

@@ -1,12 +1,14 @@
 ghost use Rattle.std.specs.Prelude.{◌≡◌, ◌*◌, ◌^◌, ◌<◌};
 ghost use Rattle.rules.specs.State.{up_lane, down_lane};
 
+use fabric::LANES_PER_SHIM;
+
 // How many lanes so many shims have.
 pub(crate) fn lane_count(shims: usize) -> usize
     requires { shims < 2 ^ 32 }
     ensures { result ≡ 2 * shims }
 {
-    2 * shims
+    LANES_PER_SHIM * shims
 }
 
 // The lane that a shim sends on.
@@ -14,7 +16,7 @@ pub(crate) fn up_lane(shim: usize) -> usize
     requires { shim < 2 ^ 32 }
     ensures { result ≡ up_lane shim }
 {
-    2 * shim
+    LANES_PER_SHIM * shim
 }
 
 // The lane that a shim receives on.
@@ -22,5 +24,5 @@ pub(crate) fn down_lane(shim: usize) -> usize
     requires { shim < 2 ^ 32 }
     ensures { result ≡ down_lane shim }
 {
-    2 * shim + 1
+    LANES_PER_SHIM * shim + 1
 }

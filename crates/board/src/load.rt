@@ -15,9 +15,7 @@ impl Board {
     {
         let (s, x) = self.place(fabric, shim, line)?;
         let strength = Strength::fitting(Access::Load, strength).ok_or(Refusal::WrongStrength)?;
-        if self.waits(s) {
-            return Err(Refusal::ShimWaits);
-        }
+        self.ready(s)?;
         if let Some(held) = self.state.shims[s].lines[x] {
             return Ok(Answer::Value(held.copy));
         }

@@ -5,8 +5,8 @@ ghost use Rattle.board.specs.Made.{made_of};
 
 use crate::board::Board;
 use crate::lanes::lane_count;
-use fabric::{Fabric, MAX_SHIMS};
-use rules::{HubLine, MAX_LINES, Refusal, Shim, Size, State, is_board_size};
+use fabric::Fabric;
+use rules::{Refusal, Size, State, is_board_size};
 
 impl Board {
     // A board of so many shims and lines over a fabric.
@@ -41,24 +41,9 @@ fn any_waits<F: Fabric>(fabric: &F, lanes: usize) -> bool
     (0..lanes).any(|lane| fabric.waiting(lane) > 0)
 }
 
-// The state of a board at first: all is 0, every shim is ready, and nothing is held, shared or claimed. It is no `Default`: the state belongs to the crate
-// `rules`, and only a board begins one.
+// The state of a board at first: the default of each part. It stands apart, so that `Board::new` proves from this one fact.
 fn fresh() -> State
     ensures { result ≡ fresh_state }
 {
-    let hub = HubLine {
-        word: 0,
-        stamp: 0,
-        sharers: [false; MAX_SHIMS],
-    };
-    let shim = Shim {
-        wait: None,
-        lines: [None; MAX_LINES],
-    };
-    State {
-        stores: 0,
-        hub: [hub; MAX_LINES],
-        shims: [shim; MAX_SHIMS],
-        claimed: [false; MAX_SHIMS],
-    }
+    State::default()
 }

@@ -43,9 +43,7 @@ impl Board {
     {
         let (s, x) = self.place(fabric, shim, line)?;
         let strength = Strength::fitting(Access::Store, strength).ok_or(Refusal::WrongStrength)?;
-        if self.waits(s) {
-            return Err(Refusal::ShimWaits);
-        }
+        self.ready(s)?;
         if self.state.stores >= STAMP_LIMIT {
             return Err(Refusal::AtLimit);
         }

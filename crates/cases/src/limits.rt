@@ -2,7 +2,7 @@
 use board::Board;
 use fabric::Fabric;
 use ring::Ring;
-use rules::{Outcome, Strength, store_request};
+use rules::{Answer, Outcome, Refusal, Strength, store_request};
 
 // A store to this line of a board of 64.
 pub(crate) fn store_to(line: u32) -> Outcome {
@@ -13,7 +13,7 @@ pub(crate) fn store_to(line: u32) -> Outcome {
 
 // So many stores to one line, each performed at the hub, and what the last of them was told.
 fn stores(board: &mut Board, ring: &mut Ring, count: u32) -> Outcome {
-    let mut outcome = board.down(ring, 0);
+    let mut outcome = Ok(Answer::Done);
     for value in 0..count {
         outcome = board.store(ring, 0, 0, u8::from(Strength::Relaxed), value);
         let _ = board.up(ring, 0);
@@ -24,15 +24,12 @@ fn stores(board: &mut Board, ring: &mut Ring, count: u32) -> Outcome {
 
 // What a million stores lead to: what the last was told, what the next is told, and what the hub says to one more that was put
 // on the lane by hand.
-pub(crate) fn million_stores() -> [Outcome; 3] {
+pub(crate) fn million_stores() -> Result<[Outcome; 3], Refusal> {
     let mut ring = Ring::new(1);
-    let mut board = match Board::new(&ring, 1, 1) {
-        Ok(board) => board,
-        Err(refusal) => return [Err(refusal); 3],
-    };
+    let mut board = Board::new(&ring, 1, 1)?;
     let last = stores(&mut board, &mut ring, 1_000_000);
     let next = stores(&mut board, &mut ring, 1);
     let _ = ring.put(0, store_request(0, 0, Strength::Relaxed, true, 1));
     let by_hand = board.up(&mut ring, 0);
-    [last, next, by_hand]
+    Ok([last, next, by_hand])
 }

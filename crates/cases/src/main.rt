@@ -32,7 +32,9 @@ fn main(rt: HostRuntime) -> io::Result<()> {
     println!(rt; "carried:{}", Bytes(&carried_frame()))?;
     tell(&rt, "line 63 of 64", limits::store_to(63))?;
     tell(&rt, "line 64 of 64", limits::store_to(64))?;
-    let [last, next, by_hand] = limits::million_stores();
+    let [last, next, by_hand] = limits::million_stores().unwrap_or_else(|refusal| [Err(
+        refusal,
+    ); 3]);
     tell(&rt, "store 1000000", last)?;
     tell(&rt, "store 1000001", next)?;
     tell(

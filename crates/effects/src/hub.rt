@@ -3,7 +3,7 @@ ghost use Rattle.rules.specs.State.{stamp_limit, shares};
 ghost use Rattle.rules.specs.Up.{goes_up, owes_ack, sent_if, ack_message, update_message, read_message, fenced_message, sent_by, hub_by};
 
 use fabric::{MAX_SHIMS, Message};
-use rules::{HubLine, Kind, STAMP_LIMIT, Strength, asks_sync, is_sc, mark_strength};
+use rules::{HubLine, Kind, STAMP_LIMIT, asks_sync, fence_request, is_sc, mark_strength};
 
 // Whether the hub performs messages of this kind at this line.
 pub fn goes_up(hub: HubLine, kind: Kind) -> bool
@@ -46,11 +46,9 @@ fn write_ack(hub: HubLine, msg: Message) -> Option<Message>
     let owed = asks_sync(msg.mark) || is_sc(msg.mark);
     owed.then_some(Message {
         kind: Kind::WriteAck.into(),
-        line: msg.line,
-        mark: msg.mark,
-        sender: msg.sender,
         value: 0,
         stamp: hub.stamp,
+        ..msg
     })
 }
 
@@ -61,11 +59,9 @@ fn update(hub: HubLine, msg: Message) -> Message
 {
     Message {
         kind: Kind::Write.into(),
-        line: msg.line,
         mark: mark_strength(msg.mark),
-        sender: msg.sender,
-        value: msg.value,
         stamp: hub.stamp + 1,
+        ..msg
     }
 }
 
@@ -75,11 +71,9 @@ fn read_response(hub: HubLine, msg: Message) -> Message
 {
     Message {
         kind: Kind::ReadResponse.into(),
-        line: msg.line,
-        mark: msg.mark,
-        sender: msg.sender,
         value: hub.word,
         stamp: hub.stamp,
+        ..msg
     }
 }
 
@@ -89,11 +83,7 @@ fn fence_message(kind: Kind, msg: Message) -> Message
 {
     Message {
         kind: kind.into(),
-        line: 0,
-        mark: Strength::SeqCst.mark(false),
-        sender: msg.sender,
-        value: 0,
-        stamp: 0,
+        ..fence_request(msg.sender)
     }
 }
 

@@ -7,8 +7,10 @@ use crate::message::Message;
 
 // How many shims a fabric serves.
 pub const MAX_SHIMS: usize = 8;
-// How many lanes a fabric has: shim s sends on lane 2 * s and receives on the lane after it.
-pub const MAX_LANES: usize = 2 * MAX_SHIMS;
+// Shim s sends on lane 2 * s, and receives on the lane after it.
+pub const LANES_PER_SHIM: usize = 2;
+// How many lanes a fabric has.
+pub const MAX_LANES: usize = LANES_PER_SHIM * MAX_SHIMS;
 // How many messages a lane holds.
 pub const MAX_CAPACITY: usize = 64;
 
@@ -22,12 +24,6 @@ pub trait Fabric {
 
     // The references that it holds, by their ghost names: whoever lent a buffer knows it again after a call.
     ghost lender: { Self → List ℕ };
-
-    // Every fabric keeps the bounds on lanes, capacities and messages.
-    ghost sound: { (s : Self) → Sound (model s).lanes };
-
-    // Its lanes have one capacity.
-    ghost level: { (s : Self) → Level (model s).lanes };
 
     // The message joins the lane at its end.
     fn put(&mut self, lane: usize, msg: Message) -> Result<(), FabricFault>
@@ -58,4 +54,10 @@ pub trait Fabric {
     // How many messages the lane holds; 0 where there is no such lane.
     fn waiting(&self, lane: usize) -> usize
         ensures { result ≡ length (messages_of (model self.now).lanes lane) };
+
+    // Every fabric keeps the bounds on lanes, capacities and messages.
+    ghost sound: { (s : Self) → Sound (model s).lanes };
+
+    // Its lanes have one capacity.
+    ghost level: { (s : Self) → Level (model s).lanes };
 }

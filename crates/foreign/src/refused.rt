@@ -1,6 +1,6 @@
 // A foreign message is refused, and nothing changes.
 use crate::check::check_eq;
-use crate::stand::Stand;
+use crate::stand::{LINES, Stand};
 use crate::step::*;
 use fabric::Message;
 use rules::Refusal;
@@ -46,9 +46,9 @@ fn same_later(stand: &mut Stand, twin: &mut Stand) -> Result<(), Fail> {
         twin,
         &[up(1), up(1), down(1), down(1), up(0), down(0), down(0)],
     )?;
-    stand.agrees(twin, &line_calls(0))?;
-    stand.agrees(twin, &line_calls(1))?;
-    stand.agrees(twin, &line_calls(2))?;
+    for line in 0..LINES {
+        stand.agrees(twin, &line_calls(line))?;
+    }
     stand.agrees(twin, &[fence(0), up(0), down(0), down(1)])
 }
 

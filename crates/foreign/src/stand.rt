@@ -9,7 +9,7 @@ use std::test::*;
 // There are more lines than shims, so that the bound of the one does not stand for that of the other.
 const SHIMS: u32 = 2;
 
-const LINES: u32 = 3;
+pub(crate) const LINES: u32 = 3;
 
 // A board and the ring that it stands on.
 #[derive(Drop)]

@@ -1,7 +1,7 @@
 ghost use Rattle.std.specs.Prelude.{◌≡◌};
 ghost use Rattle.frames.specs.Check.{check_answer, fault_number, rows_for};
 
-use fabric::{FRAME_LEN, MAX_CAPACITY, MAX_SHIMS};
+use fabric::{FRAME_LEN, LANES_PER_SHIM, MAX_CAPACITY, MAX_SHIMS};
 use queues::Rows;
 
 // A buffer cannot serve: no shims or too many, or too few bytes for one message a lane.
@@ -21,10 +21,10 @@ impl From<FramesFault> for u8 {
 pub fn check_buffer(len: usize, shims: usize) -> Result<usize, FramesFault>
     ensures { result ≡ check_answer len shims }
 {
-    if shims < 1 || shims > MAX_SHIMS {
+    if !(1..=MAX_SHIMS).contains(&shims) {
         return Err(FramesFault);
     }
-    let capacity = (len / (2 * FRAME_LEN * shims)).min(MAX_CAPACITY);
+    let capacity = (len / (LANES_PER_SHIM * FRAME_LEN * shims)).min(MAX_CAPACITY);
     if capacity == 0 {
         return Err(FramesFault);
     }
@@ -36,7 +36,7 @@ pub(crate) fn made_rows(len: usize, shims: usize) -> Rows
     ensures { result ≡ rows_for len shims }
 {
     match check_buffer(len, shims) {
-        Ok(capacity) => Rows::new(2 * shims, capacity),
+        Ok(capacity) => Rows::new(LANES_PER_SHIM * shims, capacity),
         Err(_) => Rows::new(0, 0),
     }
 }

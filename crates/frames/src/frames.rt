@@ -60,9 +60,7 @@ impl<'a> Slots for Frames<'a> {
 
     fn read(&self, slot: usize) -> Message {
         let at = FRAME_LEN * slot;
-        let mut frame = [0; FRAME_LEN];
-        frame.copy_from_slice(&self.bytes[at..at + FRAME_LEN]);
-        decode(&frame)
+        decode(&self.bytes[at..at + FRAME_LEN].try_into().unwrap())
     }
 
     fn write(&mut self, slot: usize, msg: Message) {

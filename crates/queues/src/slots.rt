@@ -8,8 +8,8 @@ ghost use Rattle.queues.specs.Slots.{Puts, Takes};
 use crate::rows::{Rows, Span};
 use fabric::Message;
 
-// What holds the messages of lanes in slots. The fabric itself is it, and no generic struct holds it as a field: of a buffer
-// that lies in a struct within a struct, the caller who lent it would know nothing afterwards.
+// What holds the messages of lanes in slots: the fabric itself. A generic struct with the slots as a field was tried: of a buffer in a struct within a struct, the
+// caller who lent it knows nothing afterwards.
 pub trait Slots {
     // What kind of thing lies behind the lanes.
     ghost backing: { Backing };
@@ -28,12 +28,6 @@ pub trait Slots {
 
     // The references that it holds, by their ghost names.
     ghost lender: { Self → List ℕ };
-
-    // All lanes lie in the slots.
-    ghost lawful: { (s : Self) → RowsLawful (rows s) (room s) };
-
-    // A take writes no slot.
-    ghost takes: { (s : Self) → Takes backing (state s) };
 
     // The lanes, and which slots of each are in use.
     fn rows(&self) -> &Rows
@@ -64,4 +58,10 @@ pub trait Slots {
         ensures here { held self.new slot ≡ msg }
         ensures there { (i : ℕ) → i < room self.old → i ≢ slot → held self.new i ≡ held self.old i }
         ensures state { Puts backing (state self.old) (state self.new) slot msg };
+
+    // All lanes lie in the slots.
+    ghost lawful: { (s : Self) → RowsLawful (rows s) (room s) };
+
+    // A take writes no slot.
+    ghost takes: { (s : Self) → Takes backing (state s) };
 }

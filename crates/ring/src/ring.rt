@@ -4,7 +4,7 @@ ghost use Rattle.queues.specs.Rows.{RowsLawful};
 ghost use Rattle.queues.specs.Sound.{rows_sound, rows_level};
 ghost use Rattle.ring.specs.Table.{ring_capacity, lanes_for, message_in};
 
-use fabric::{Fabric, FabricFault, MAX_LANES, MAX_SHIMS, Message};
+use fabric::{Fabric, FabricFault, LANES_PER_SHIM, MAX_LANES, MAX_SHIMS, Message};
 use queues::{Rows, Slots, Span};
 
 // How many messages each lane of a ring can hold.
@@ -48,7 +48,11 @@ impl Ring {
 fn lanes_for(shims: usize) -> usize
     ensures { result ≡ lanes_for shims }
 {
-    if shims <= MAX_SHIMS { 2 * shims } else { 0 }
+    if shims <= MAX_SHIMS {
+        LANES_PER_SHIM * shims
+    } else {
+        0
+    }
 }
 
 impl Slots for Ring {

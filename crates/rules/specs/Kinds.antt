@@ -4,7 +4,7 @@ use Rattle.std.specs.Option.{unwrap_or}
 use Rattle.fabric.specs.declared.message.Message.{Message}
 use Rattle.rules.specs.declared.kind.Kind.{Kind}
 use Rattle.rules.specs.declared.kind.Kind.TheVariants.{Write, ReadRequest, ReadResponse, FenceRequest, FenceResponse, WriteAck, Drop}
-use Rattle.rules.specs.declared.kind.UnknownKind.{UnknownKind}
+use Rattle.rules.specs.declared.unknown.UnknownNumber.{UnknownNumber}
 
 abbrev pub kind_number : Kind → ℕ
 kind_number Write = 1
@@ -27,7 +27,7 @@ kind_of k =
     (cond (k == kind_number Drop) (Some Drop) None))))))
 
 -- the kind of a number, or an error that carries the number where it is none of a kind
-abbrev pub DecodesKind : ℕ → Result Kind UnknownKind → Type 0
+abbrev pub DecodesKind : ℕ → Result Kind UnknownNumber → Type 0
 DecodesKind n r = MatchResult r (λ k. kind_of n ≡ Some k) (λ e. (kind_of n ≡ None) × (e.0 ≡ n))
 
 -- the kind of a message; one that is none of the seven is foreign, whatever stands here for it

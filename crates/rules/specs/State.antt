@@ -56,7 +56,7 @@ unsettled_at v t = held_at false v t
 
 -- shim s; line x of shim s; line x of the hub
 abbrev pub shim_at : State → ℕ → Shim
-shim_at b s = slice_index_or b.shims s (record { wait = None; lines = [] })
+shim_at b s = slice_index_or b.shims s (record { wait = None; lines = []; claimed = false })
 
 abbrev pub wait_at : State → ℕ → Option Wait
 wait_at b s = (shim_at b s).wait
@@ -72,26 +72,26 @@ shares h s = slice_index_or h.sharers s false
 
 -- the state with another shim, another wait, another line of a shim, another line of the hub, one more store
 abbrev pub with_shim : State → ℕ → Shim → State
-with_shim b s shim = record { stores = b.stores; hub = b.hub; shims = slice_set b.shims s shim; claimed = b.claimed }
+with_shim b s shim = record b { shims = slice_set b.shims s shim }
 
 abbrev pub with_wait : State → ℕ → Option Wait → State
-with_wait b s w = with_shim b s (record { wait = w; lines = (shim_at b s).lines })
+with_wait b s w = with_shim b s (record (shim_at b s) { wait = w })
 
 abbrev pub with_line : State → ℕ → ℕ → Option Held → State
-with_line b s x l = with_shim b s (record { wait = wait_at b s; lines = slice_set (shim_at b s).lines x l })
+with_line b s x l = with_shim b s (record (shim_at b s) { lines = slice_set (shim_at b s).lines x l })
 
 abbrev pub with_hub : State → ℕ → HubLine → State
-with_hub b x h = record { stores = b.stores; hub = slice_set b.hub x h; shims = b.shims; claimed = b.claimed }
+with_hub b x h = record b { hub = slice_set b.hub x h }
 
 abbrev pub with_store : State → State
-with_store b = record { stores = b.stores + 1; hub = b.hub; shims = b.shims; claimed = b.claimed }
+with_store b = record b { stores = b.stores + 1 }
 
 -- at first words, stamps and the number of stores are 0, every shim is ready, and nothing is held, shared or claimed
 abbrev pub fresh_hub_line : HubLine
 fresh_hub_line = record { word = 0; stamp = 0; sharers = replicate shim_limit false }
 
 abbrev pub fresh_shim : Shim
-fresh_shim = record { wait = None; lines = replicate line_limit None }
+fresh_shim = record { wait = None; lines = replicate line_limit None; claimed = false }
 
 abbrev pub fresh_state : State
-fresh_state = record { stores = 0; hub = replicate line_limit fresh_hub_line; shims = replicate shim_limit fresh_shim; claimed = replicate shim_limit false }
+fresh_state = record { stores = 0; hub = replicate line_limit fresh_hub_line; shims = replicate shim_limit fresh_shim }

@@ -4,7 +4,7 @@ use Rattle.rules.specs.declared.strength.Access.{Access}
 use Rattle.rules.specs.declared.strength.Access.TheVariants.{Load, Store, Fence}
 use Rattle.rules.specs.declared.strength.Strength.{Strength}
 use Rattle.rules.specs.declared.strength.Strength.TheVariants.{Relaxed, Acquire, Release, SeqCst}
-use Rattle.rules.specs.declared.strength.UnknownStrength.{UnknownStrength}
+use Rattle.rules.specs.declared.unknown.UnknownNumber.{UnknownNumber}
 
 abbrev pub strength_number : Strength → ℕ
 strength_number Relaxed = 0
@@ -21,7 +21,7 @@ strength_of g =
     (cond (g == strength_number SeqCst) (Some SeqCst) None)))
 
 -- the strength of a number, or an error that carries the number where it is none of a strength
-abbrev pub DecodesStrength : ℕ → Result Strength UnknownStrength → Type 0
+abbrev pub DecodesStrength : ℕ → Result Strength UnknownNumber → Type 0
 DecodesStrength g r = MatchResult r (λ k. (strength_of g ≡ Some k) × (strength_number k ≡ g)) (λ e. (strength_of g ≡ None) × (e.0 ≡ g))
 
 -- which strengths a load, a store and a fence take

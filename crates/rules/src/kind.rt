@@ -1,8 +1,8 @@
-ghost use Rattle.std.specs.Prelude.{◌≡◌, ◌++◌, Some, codes, decimal};
+ghost use Rattle.std.specs.Prelude.{◌≡◌, Some};
 ghost use Rattle.rules.specs.Kinds.{kind_number, DecodesKind};
 ghost use Rattle.rules.specs.Words.{kind_word};
 
-use std::error::Error;
+use crate::unknown::UnknownNumber;
 use std::fmt;
 
 // What a message is for.
@@ -17,10 +17,6 @@ pub enum Kind {
     Drop = 7,
 }
 
-// A number that no kind has.
-#[derive(Clone, Copy, PartialEq, Eq, Debug)]
-pub struct UnknownKind(pub u8);
-
 impl From<Kind> for u8 {
     ghost from_gives = { λ k n. n ≡ kind_number k };
 
@@ -30,11 +26,11 @@ impl From<Kind> for u8 {
 }
 
 impl TryFrom<u8> for Kind {
-    type Error = UnknownKind;
+    type Error = UnknownNumber;
 
     ghost try_from_gives = { DecodesKind };
 
-    fn try_from(number: u8) -> Result<Kind, UnknownKind> {
+    fn try_from(number: u8) -> Result<Kind, UnknownNumber> {
         match number {
             1 => Ok(Kind::Write),
             2 => Ok(Kind::ReadRequest),
@@ -43,7 +39,7 @@ impl TryFrom<u8> for Kind {
             5 => Ok(Kind::FenceResponse),
             6 => Ok(Kind::WriteAck),
             7 => Ok(Kind::Drop),
-            _ => Err(UnknownKind(number)),
+            _ => Err(UnknownNumber(number)),
         }
     }
 }
@@ -63,13 +59,3 @@ impl fmt::Display for Kind {
         })
     }
 }
-
-impl fmt::Display for UnknownKind {
-    ghost output = { λ e. Some (codes "no kind of message has number " ++ decimal e.0) };
-
-    fn fmt<W: fmt::Write>(&self, f: &mut fmt::Formatter<W>) -> fmt::Result {
-        write!(f, "no kind of message has number {}", self.0)
-    }
-}
-
-impl Error for UnknownKind {}

@@ -11,13 +11,15 @@ mod request;
 mod size;
 mod state;
 mod strength;
+mod unknown;
 
 pub use answer::{Answer, Outcome};
 pub use call::Call;
 pub use event::Event;
-pub use kind::{Kind, UnknownKind};
+pub use kind::Kind;
 pub use refusal::Refusal;
 pub use request::{drop_request, fence_request, load_request, store_request};
 pub use size::{MAX_LINES, is_board_size};
 pub use state::{Held, HubLine, STAMP_LIMIT, Shim, Size, State, Wait};
-pub use strength::{Access, Strength, UnknownStrength, asks_sync, is_sc, mark_strength};
+pub use strength::{Access, Strength, asks_sync, is_sc, mark_strength};
+pub use unknown::UnknownNumber;

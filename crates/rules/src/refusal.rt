@@ -69,8 +69,9 @@ impl fmt::Display for Refusal {
     fn fmt<W: fmt::Write>(&self, f: &mut fmt::Formatter<W>) -> fmt::Result {
         let number = u8::from(*self);
         match *self {
-            Refusal::Fabric(FabricFault::NoLane(_)) => write!(f, "{number}"),
-            Refusal::Fabric(fault) => write!(f, "{number} {} {}", u8::from(fault), fault.lane()),
+            Refusal::Fabric(fault @ (FabricFault::Full(_) | FabricFault::Empty(_))) => {
+                write!(f, "{number} {} {}", u8::from(fault), fault.lane())
+            }
             Refusal::Foreign(lane) => write!(f, "{number} {lane}"),
             _ => write!(f, "{number}"),
         }

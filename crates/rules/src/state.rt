@@ -12,7 +12,7 @@ pub struct Size {
 }
 
 // A line at the hub: its word, its stamp, and the shims that are sent updates of it.
-#[derive(Clone, Copy)]
+#[derive(Clone, Copy, Default)]
 pub struct HubLine {
     pub word: Word,
     pub stamp: u32,
@@ -36,21 +36,21 @@ pub enum Wait {
     Fence,
 }
 
-#[derive(Clone, Copy)]
+#[derive(Clone, Copy, Default)]
 pub struct Shim {
     // None where the shim is ready.
     pub wait: Option<Wait>,
     // None where the shim does not hold the line.
     pub lines: [Option<Held>; MAX_LINES],
+    // Whether a chip has claimed it.
+    pub claimed: bool,
 }
 
 // What the calls on a board change.
-#[derive(Clone, Copy)]
+#[derive(Clone, Copy, Default)]
 pub struct State {
     // How many stores were accepted.
     pub stores: u32,
     pub hub: [HubLine; MAX_LINES],
     pub shims: [Shim; MAX_SHIMS],
-    // For each shim, whether a chip has claimed it.
-    pub claimed: [bool; MAX_SHIMS],
 }

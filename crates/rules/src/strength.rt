@@ -1,8 +1,7 @@
-ghost use Rattle.std.specs.Prelude.{◌≡◌, ◌++◌, Some, MatchOption, codes, decimal};
+ghost use Rattle.std.specs.Prelude.{◌≡◌, MatchOption};
 ghost use Rattle.rules.specs.Strengths.{strength_number, DecodesStrength, takes, fitting, mark_of, mark_strength, is_sc, asks_sync};
 
-use std::error::Error;
-use std::fmt;
+use crate::unknown::UnknownNumber;
 
 // How strictly a call is ordered with the calls around it, by the names of C11.
 #[derive(Clone, Copy, PartialEq, Eq, Debug)]
@@ -12,10 +11,6 @@ pub enum Strength {
     Release = 2,
     SeqCst = 3,
 }
-
-// A number that no strength has.
-#[derive(Clone, Copy, PartialEq, Eq, Debug)]
-pub struct UnknownStrength(pub u8);
 
 // The calls that have a strength.
 #[derive(Clone, Copy, PartialEq, Eq, Debug)]
@@ -34,30 +29,20 @@ impl From<Strength> for u8 {
 }
 
 impl TryFrom<u8> for Strength {
-    type Error = UnknownStrength;
+    type Error = UnknownNumber;
 
     ghost try_from_gives = { DecodesStrength };
 
-    fn try_from(number: u8) -> Result<Strength, UnknownStrength> {
+    fn try_from(number: u8) -> Result<Strength, UnknownNumber> {
         match number {
             0 => Ok(Strength::Relaxed),
             1 => Ok(Strength::Acquire),
             2 => Ok(Strength::Release),
             3 => Ok(Strength::SeqCst),
-            _ => Err(UnknownStrength(number)),
+            _ => Err(UnknownNumber(number)),
         }
     }
 }
-
-impl fmt::Display for UnknownStrength {
-    ghost output = { λ e. Some (codes "no strength has number " ++ decimal e.0) };
-
-    fn fmt<W: fmt::Write>(&self, f: &mut fmt::Formatter<W>) -> fmt::Result {
-        write!(f, "no strength has number {}", self.0)
-    }
-}
-
-impl Error for UnknownStrength {}
 
 impl Strength {
     // Whether a call takes this strength.

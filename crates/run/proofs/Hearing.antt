@@ -92,7 +92,7 @@ module _ {ω : Backing} (z : Size) (b : State) (φ : Model ω) (s : ℕ) (fits :
 
   -- the shim once it was handed m
   abbrev new : Shim
-  new = record { wait = cond (ends m (kind_at m)) None w₀; lines = set (shim_at b s).lines m.line (line_by l₀ m (kind_at m)) }
+  new = record (shim_at b s) { wait = cond (ends m (kind_at m)) None w₀; lines = set (shim_at b s).lines m.line (line_by l₀ m (kind_at m)) }
 
   module _ (low : s < z.shims) (len : length φ.lanes ≡ 2 * z.shims) (first : messages_of φ.lanes (down_lane s) ≡ m ∷ rest_of (messages_of φ.lanes (down_lane s))) (on_line : m.line < z.lines)
       (h : Heard w₀ l₀ m (kind_at m)) where
@@ -116,7 +116,7 @@ module _ {ω : Backing} (z : Size) (b : State) (φ : Model ω) (s : ℕ) (fits :
     handed_follows : Follows z b φ (Down s) (handed ω b φ s m)
     handed_follows =
         subst (λ (c : State). Follows z b φ (Down s) (after (Ok (answer_by m (kind_at m))) c (take_on ω φ (down_lane s))))
-        (sym (shim_twice z b fits s low (record { wait = new.wait; lines = (shim_at b s).lines }) (λ y. record { wait = y.wait; lines = set y.lines m.line (line_by l₀ m (kind_at m)) })))
+        (sym (shim_twice z b fits s low (record (shim_at b s) { wait = new.wait }) (λ y. record y { lines = set y.lines m.line (line_by l₀ m (kind_at m)) })))
         record {
           fits = fits_shim z b fits s low new (length-set (shim_at b s).lines m.line (line_by l₀ m (kind_at m)));
           step = rw h.answer (downs s (notice_of m) low hears);

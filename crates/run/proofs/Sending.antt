@@ -49,7 +49,7 @@ module _ (z : Size) (b : State) (s : ℕ) (o : Request) where
 
   -- a request that is about line x, where that becomes l
   pub line_changes : Fits z b → s < z.shims → (w : Option rules.Wait) (x : ℕ) (l : Option Held) → x < z.lines → wait_of w ≡ wait_after o → line_of l ≡ line_after (act x o) (line_of (line_at b s x))
-      → ((y : ℕ) → y ≢ x → act y o ≡ Nothing) → Changes (record { wait = w; lines = set (shim_at b s).lines x l })
+      → ((y : ℕ) → y ≢ x → act y o ≡ Nothing) → Changes (record (shim_at b s) { wait = w; lines = set (shim_at b s).lines x l })
   line_changes fits low w x l on_line waits here there =
       let long = fits.lines s low in
       record {
@@ -81,7 +81,7 @@ module _ {ω : Backing} (z : Size) (b : State) (φ : Model ω) (s : ℕ) (fits :
   load_follows x g = unless z b φ (Load s x g) fits (load_checks z b φ.lanes s x g) _ accepted
     where
       new : Shim
-      new = record { wait = Some (wait.Load x); lines = (shim_at b s).lines }
+      new = record (shim_at b s) { wait = Some (wait.Load x) }
 
       change : Changes z b s (Read x g) new
       change = record { wait = refl; line = λ y. ⊎_elim (λ (e : y ≡ x). rw (eq-eqb y x e)) (λ (ne : y ≢ x). rw (ne_eqb y x ne)) (cases_eq y x) }
@@ -100,7 +100,7 @@ module _ {ω : Backing} (z : Size) (b : State) (φ : Model ω) (s : ℕ) (fits :
   fence_follows g = unless z b φ (Fence s g) fits (fence_checks z b φ.lanes s g) _ accepted
     where
       new : Shim
-      new = record { wait = Some wait.Fence; lines = (shim_at b s).lines }
+      new = record (shim_at b s) { wait = Some wait.Fence }
 
       accepted : Passed (fence_checks z b φ.lanes s g) → Follows z b φ (Fence s g) (after (Ok Waits) (with_wait b s (Some wait.Fence)) (put_on ω φ (up_lane s) (fence_message s)))
       accepted (lanes, (shim, (strength, (waits, (full, end))))) =
@@ -122,7 +122,7 @@ module _ {ω : Backing} (z : Size) (b : State) (φ : Model ω) (s : ℕ) (fits :
           go false k = absurd (false≢true (sym k))
 
       new : Shim
-      new = record { wait = wait_at b s; lines = set (shim_at b s).lines x None }
+      new = record (shim_at b s) { lines = set (shim_at b s).lines x None }
 
       accepted : Passed (evict_checks z b φ.lanes s x) → Follows z b φ (Evict s x) (after (Ok Done) (with_line b s x None) (put_on ω φ (up_lane s) (drop_message s x)))
       accepted (lanes, (shim, (line, (waits, (held, (unsettled, (full, end))))))) =

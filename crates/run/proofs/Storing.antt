@@ -59,7 +59,7 @@ module _ {ω : Backing} (z : Size) (b : State) (φ : Model ω) (s : ℕ) (fits :
 
   -- the shim after the store, if it waits for w
   abbrev new : Option rules.Wait → Shim
-  new w = record { wait = w; lines = set (shim_at b s).lines x (line_stored l₀ v) }
+  new w = record (shim_at b s) { wait = w; lines = set (shim_at b s).lines x (line_stored l₀ v) }
 
   abbrev message : Message
   message = store_message_of_number s x g (is_held l₀) v
@@ -86,7 +86,7 @@ module _ {ω : Backing} (z : Size) (b : State) (φ : Model ω) (s : ℕ) (fits :
     split : (t : Bool) → eqb g 3 ≡ t → Follows z b φ (Store s x g v) (cond t (after (Ok Waits) (with_wait (stored b s x v) s (Some (wait.Store x))) φ') (after (Ok Done) (stored b s x v) φ'))
     split true q =
         subst (λ (c : State). Follows z b φ (Store s x g v) (after (Ok Waits) c φ'))
-        (sym (shim_twice z (with_store b) (fits_store z b fits) s by.low (new (wait_at b s)) (λ y. record { wait = Some (wait.Store x); lines = y.lines })))
+        (sym (shim_twice z (with_store b) (fits_store z b fits) s by.low (new (wait_at b s)) (λ y. record y { wait = Some (wait.Store x) })))
         (rw q at (leaves (Some (wait.Store x)) (rw q)))
     split false q = rw q at (leaves (wait_at b s) (rw q by.ready))
 

@@ -39,7 +39,7 @@ module _ (z : Size) (b : State) (fits : Fits z b) where
     pub shim_twice : (shim : Shim) (f : Shim → Shim) → with_shim (with_shim b s shim) s (f (shim_at (with_shim b s shim) s)) ≡ with_shim b s (f shim)
     shim_twice shim f =
         ap (λ (y : Shim). with_shim (with_shim b s shim) s (f y)) (shim_here shim)
-        ∙ ap {B = State} (λ (l : List Shim). record { stores = b.stores; hub = b.hub; shims = l; claimed = b.claimed }) (set-set b.shims s shim (f shim))
+        ∙ ap {B = State} (λ (l : List Shim). record b { shims = l }) (set-set b.shims s shim (f shim))
 
   module _ (x : ℕ) (low : x < z.lines) where
     hub_low : x < length b.hub

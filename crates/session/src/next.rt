@@ -9,7 +9,7 @@ use sheet::Line;
 use verdict::Flaw;
 
 impl<'a> Session<'a> {
-    // The next thing that the sheet prints; nothing when all is printed.
+    // The next thing that the sheet prints; nothing when all is printed. It is no `Iterator`, which has one relation in the place of these four clauses.
     pub fn next(&mut self) -> Option<Printed<'a>>
         ensures item { option_map item_of result ≡ (next_item self.old.reader.sheet.now (play_of self.old)).0 }
         ensures left { play_of self.new ≡ (next_item self.old.reader.sheet.now (play_of self.old)).1 }

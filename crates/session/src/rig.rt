@@ -20,16 +20,14 @@ pub(crate) struct Rig<'a> {
 }
 
 impl<'a> Rig<'a> {
-    // The board of this size. Its frames lie in the buffer.
+    // The board that is asked for, over its fabric. The buffer is for frames.
     pub(crate) fn new(asked: BoardLine, buffer: &'a mut [u8; BUFFER_LEN]) -> Rig<'a>
         requires { is_size asked.shims asked.lines ≡ true }
         ensures { (place : ℕ) → running_on place 0 result ≡ running (begun place asked) }
     {
         let carrier = Carrier::new(asked.fabric, asked.shims as usize, buffer);
-        match make_board(&carrier, asked.shims, asked.lines) {
-            Ok(board) => Rig { board, carrier },
-            Err(_) => unreachable(),
-        }
+        let board = make_board(&carrier, asked.shims, asked.lines).unwrap();
+        Rig { board, carrier }
     }
 
     // Makes a call on the board.

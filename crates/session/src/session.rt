@@ -7,7 +7,7 @@ use verdict::Flaw;
 // What is told next.
 #[derive(Drop)]
 pub(crate) enum Phase<'a> {
-    // What the next line says, which is run on this board.
+    // What comes of the next line, on this board.
     Running(Rig<'a>),
     // What is wrong with the sheet before its lines.
     Flawed(Flaw),

@@ -10,8 +10,5 @@ pub fn carried_frame() -> [u8; FRAME_LEN]
 {
     let mut bytes = [0u8; 4096];
     let msg = store_request(0, 0, Strength::SeqCst, true, 0x01020304);
-    match carry_across(&mut bytes, msg) {
-        Ok(carried) => encode(carried),
-        Err(_) => unreachable(),
-    }
+    encode(carry_across(&mut bytes, msg).unwrap())
 }

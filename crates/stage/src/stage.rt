@@ -21,6 +21,7 @@ impl<F: Fabric> Stage<F> {
     {
         let mut registers = [None; MAX_LANES];
         // A lane that is not there gives no message.
+        // `array::from_fn` was tried: nothing is known of `below` after it.
         for (lane, register) in registers.iter_mut().enumerate() {
             *register = below.take(lane).ok();
         }

@@ -23,7 +23,7 @@ pub fn line_number(sheet: &[u8], place: usize) -> usize
     1 + feeds_before(sheet, place)
 }
 
-// How many calls are left to read. A fault ends the count, so that it is no iterator's.
+// How many calls are left to read. A reader is no iterator: a fault ends the lines.
 fn count_calls(mut reader: Reader) -> Result<usize, Fault>
     ensures { result ≡ followed_by (entries_from (length reader.entry.sheet.now) reader.entry.sheet.now reader.entry.at) (λ es. Ok (calls_in es)) }
 {

@@ -1,9 +1,25 @@
-ghost use Rattle.std.specs.Prelude.{◌≡◌, ◌++◌, IfOk, OnOk};
-ghost use Rattle.verdict.specs.Verdicts.{verdict_bytes, verdict_of};
+ghost use Rattle.std.specs.Prelude.{◌≡◌, ◌++◌, IfOk, Some, OnOk};
+ghost use Rattle.verdict.specs.Verdicts.{flaw_bytes, verdict_bytes, verdict_of};
 
 use crate::checker::check;
-use crate::verdict::Verdict;
+use crate::verdict::{Flaw, Verdict};
 use std::alloc::{AllocError, Global};
+use std::fmt;
+
+impl fmt::Display for Flaw {
+    ghost output = { λ flaw. Some (flaw_bytes flaw) };
+
+    fn fmt<W: fmt::Write>(&self, f: &mut fmt::Formatter<W>) -> fmt::Result {
+        match *self {
+            Flaw::WrongBoard => write!(f, "no 1"),
+            Flaw::Fault { fault, line } => {
+                let number = u8::from(fault.kind);
+                let place = fault.place;
+                write!(f, "fault {number} at {place} line {line}")
+            }
+        }
+    }
+}
 
 // Writes a verdict as a line.
 pub fn put_verdict(heap: Global, out: &mut Vec<u8>, verdict: Verdict) -> Result<(), AllocError>

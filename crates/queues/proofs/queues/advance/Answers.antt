@@ -12,4 +12,4 @@ returns-clause-after g c =
     let span : _ ≡ take_span (S.rows s) k =
     λ i. record { first = ((span_of (c.rows.ensures i) k).first + 1) % c.lane_len.ensures i; waiting = (span_of (c.rows.ensures i) k).waiting - 1 } in
     (λ i. rows_model S.backing ((e.rows ∙ ap (λ x. with_span (S.rows s) k x) span) i) (e.held i) (e.state i))
-    ∙ take_model (S.rows s) (S.room s) (S.held s) (S.lawful s) k c.requires.in_range c.requires.some S.backing (S.state s) (S.takes s)
+    ∙ take_model (S.rows s) (S.room s) (S.held s) (g.met.S.Slots.lawful s) k c.requires.in_range c.requires.some S.backing (S.state s) (g.met.S.Slots.takes s)

@@ -13,4 +13,4 @@ returns-clause-after g c =
     let e = c.set_span.ensures in
     let next = c.place.ensures.place ∙ ap (λ r. place (S.rows s) k ((span_of r k).first + (span_of r k).waiting)) c.rows.ensures in
     (λ i. rows_model S.backing ((e.rows ∙ ap (λ r. with_span r k (put_span c.rows.result.now k)) w.rows ∙ ap (λ r. with_span (S.rows s) k (put_span r k)) c.rows.ensures) i) (e.held i) (e.state i))
-    ∙ put_model (S.rows s) (S.room s) (S.held s) (S.lawful s) k c.requires.in_range c.requires.space c.args.msg (S.held t) _ next w.here w.there S.backing (S.state s) (S.state t) w.state
+    ∙ put_model (S.rows s) (S.room s) (S.held s) (g.met.S.Slots.lawful s) k c.requires.in_range c.requires.space c.args.msg (S.held t) _ next w.here w.there S.backing (S.state s) (S.state t) w.state

@@ -12,10 +12,10 @@ pub returns-then-span-lane_len-clause-answer : goal.returns-then-span-lane_len-c
 returns-then-span-lane_len-clause-answer g c =
     let S = g.S.Slots in
     let s = c.args.slots.now in
-    full_put (S.rows s) (S.room s) (S.held s) (S.lawful s) c.args.lane c.in_ok-span.ensures.there.0 (search rules)
+    full_put (S.rows s) (S.room s) (S.held s) (g.met.S.Slots.lawful s) c.args.lane c.in_ok-span.ensures.there.0 (search rules)
 
 pub returns-clause-answer : goal.returns-clause-answer
 returns-clause-answer g c =
     let S = g.S.Slots in
     let s = c.args.slots.now in
-    ok_put (S.rows s) (S.room s) (S.held s) (S.lawful s) c.args.lane c.in_ok-span.ensures.there.0 (search rules)
+    ok_put (S.rows s) (S.room s) (S.held s) (g.met.S.Slots.lawful s) c.args.lane c.in_ok-span.ensures.there.0 (search rules)

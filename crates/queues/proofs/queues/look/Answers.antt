@@ -14,7 +14,7 @@ pub returns-then-span-eq0-clause-answer : goal.returns-then-span-eq0-clause-answ
 returns-then-span-eq0-clause-answer g c =
     let S = g.S.Slots in
     let s = c.args.slots.now in
-    empty_take (S.rows s) (S.room s) (S.held s) (S.lawful s) c.args.lane c.in_ok-span.ensures.there.0 (search rules)
+    empty_take (S.rows s) (S.room s) (S.held s) (g.met.S.Slots.lawful s) c.args.lane c.in_ok-span.ensures.there.0 (search rules)
 
 pub returns-clause-answer : goal.returns-clause-answer
 returns-clause-answer g c =
@@ -22,4 +22,4 @@ returns-clause-answer g c =
     let s = c.args.slots.now in
     let t = c.in_ok-span.ensures.there in
     ap Ok (c.read.ensures ∙ ap (S.held s) (c.place.ensures.place ∙ ap (λ (y : Span). place (S.rows s) c.args.lane y.first) t.1))
-    ∙ ok_take (S.rows s) (S.room s) (S.held s) (S.lawful s) c.args.lane t.0 (search rules)
+    ∙ ok_take (S.rows s) (S.room s) (S.held s) (g.met.S.Slots.lawful s) c.args.lane t.0 (search rules)

@@ -21,13 +21,13 @@ loop-lane-preserved g c =
 
 pub invariant_of-result : goal.invariant_of-result
 invariant_of-result g c =
-    let s = g.F.Fabric.sound c.args.below in
+    let s = g.met.F.Fabric.sound c.args.below in
     record { lawful = filled_lawful _ (g.F.Fabric.model c.args.below).lanes _ _ c.loop-lane.invariant.1 (omega (arith, c.loop-lane-test.false, s.lane_bound)) s }
 
 pub returns-clause-model : goal.returns-clause-model
 returns-clause-model g c =
     let m₀ = g.F.Fabric.model c.args.below in
-    let all : length m₀.lanes ≤ c.loop-lane.lane = omega (arith, c.loop-lane-test.false, (g.F.Fabric.sound c.args.below).lane_bound) in
+    let all : length m₀.lanes ≤ c.loop-lane.lane = omega (arith, c.loop-lane-test.false, (g.met.F.Fabric.sound c.args.below).lane_bound) in
     let lanes = filled_same _ m₀.lanes _ _ c.loop-lane.invariant.1 all in
     let n : min c.loop-lane.lane (length m₀.lanes) ≡ length m₀.lanes = omega arith in
     let state = ap (λ q. q.state) c.loop-lane.invariant.2 ∙ ap (λ n. (firsts_taken g.F.Fabric.backing m₀ n).state) n in

@@ -8,4 +8,4 @@ returns-clause-after g c =
     let s = c.args.self.now in
     let s' = c.look.new.self in
     looked_and_taken b s'.registers (g.F.Fabric.model s'.below) (g.F.Fabric.model c.take.new.self) c.args.lane c.ok.result (stage_model b s.registers (g.F.Fabric.model s.below))
-    c.look.result c.take.result c.in_ok-msg.msg c.look.ensures.same s'.lawful (g.F.Fabric.sound s'.below) c.look.ensures.answer c.in_ok-msg.was c.take.ensures.answer c.take.ensures.after c.ok.ensures.value
+    c.look.result c.take.result c.in_ok-msg.msg c.look.ensures.same s'.lawful (g.met.F.Fabric.sound s'.below) c.look.ensures.answer c.in_ok-msg.was c.take.ensures.answer c.take.ensures.after c.ok.ensures.value

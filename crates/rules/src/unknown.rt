@@ -1,0 +1,18 @@
+ghost use Rattle.std.specs.Prelude.{◌++◌, Some, codes, decimal};
+
+use std::error::Error;
+use std::fmt;
+
+// A number that nothing has, of what was to be found by it.
+#[derive(Clone, Copy, PartialEq, Eq, Debug)]
+pub struct UnknownNumber(pub u8);
+
+impl fmt::Display for UnknownNumber {
+    ghost output = { λ e. Some (codes "nothing has number " ++ decimal e.0) };
+
+    fn fmt<W: fmt::Write>(&self, f: &mut fmt::Formatter<W>) -> fmt::Result {
+        write!(f, "nothing has number {}", self.0)
+    }
+}
+
+impl Error for UnknownNumber {}
