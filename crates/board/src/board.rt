@@ -7,7 +7,7 @@ use rules::{Size, State};
 // A hub and its shims. Every call is given the fabric that the board was made over. The two stay apart, since a hand may reach the fabric between calls,
 // and a call refuses a fabric with other lanes.
 //
-// Each call promises the same two things: `lender`, that the fabric holds the buffers that it was lent, and `rule`, which says all that the call leaves.
+// Each call promises the same two things: `lender`, that the fabric still holds the buffers that it was lent, and `rule`, which says all that the call leaves.
 // They stand at the calls, and not in a type: a type speaks of one value, and they tie what is after a call to what was before it.
 #[derive(Drop)]
 pub struct Board {

@@ -5,13 +5,13 @@ ghost use Rattle.fabric.specs.Backing.{Backing, Model, after_put, after_take};
 use crate::fault::FabricFault;
 use crate::message::Message;
 
-// How many shims a fabric serves.
+// How many shims a fabric serves at most.
 pub const MAX_SHIMS: usize = 8;
 // Shim s sends on lane 2 * s, and receives on the lane after it.
 pub const LANES_PER_SHIM: usize = 2;
-// How many lanes a fabric has.
+// How many lanes a fabric has at most.
 pub const MAX_LANES: usize = LANES_PER_SHIM * MAX_SHIMS;
-// How many messages a lane holds.
+// How many messages a lane can hold at most.
 pub const MAX_CAPACITY: usize = 64;
 
 // A set of lanes that carry messages in order.

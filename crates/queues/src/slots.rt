@@ -9,7 +9,7 @@ use crate::rows::{Rows, Span};
 use fabric::Message;
 
 // What holds the messages of lanes in slots: the fabric itself. A generic struct with the slots as a field was tried: of a buffer in a struct within a struct, the
-// caller who lent it knows nothing afterwards.
+// caller who lent it knows nothing afterwards but its length.
 pub trait Slots {
     // What kind of thing lies behind the lanes.
     ghost backing: { Backing };

@@ -3,7 +3,7 @@ ghost use Rattle.std.specs.Prelude.{◌++◌, Some, codes, decimal};
 use std::error::Error;
 use std::fmt;
 
-// A number that nothing has, of what was to be found by it.
+// The number that `try_from` was given, where no kind or no strength has it.
 #[derive(Clone, Copy, PartialEq, Eq, Debug)]
 pub struct UnknownNumber(pub u8);
 

@@ -4,7 +4,7 @@ ghost use Rattle.shown.specs.Bytes.{byte_text, bytes_text};
 
 use std::fmt;
 
-// Bytes as they are printed: before each a space, and two digits for it.
+// Bytes as they are printed: each as a space and two hexadecimal digits.
 #[derive(Clone, Copy)]
 pub struct Bytes<'a>(pub &'a [u8]);
 

@@ -42,7 +42,7 @@ impl<'a> Reader<'a> {
         }
     }
 
-    // The next line, or none at the end of the sheet. After a fault the reader is where it was.
+    // The next line, or none at the end of the sheet. After a fault the reader is where it was. It is no `Iterator`: the lines can end in a fault.
     pub fn next_line(&mut self) -> Result<Option<Line<'a>>, Fault>
         ensures line { NextLine self.old.sheet self.old.at result self.new.at }
         ensures sheet { self.new.sheet ≡ self.old.sheet }
