@@ -1,9 +1,8 @@
 -- The calls that shims have sent up: the entries of one shim, and the places of entries.
 use Rattle.std.proofs.Common.{◌≡◌, ℕ, suc, ◌+◌, ◌<◌, ◌≤◌, Bool, true, false, cond, eqb, List, [], ◌∷◌, ◌++◌, length, sym, refl, ap, ◌∙◌, inl, inr, arith}
 use Rattle.std.proofs.lemmas.Bool.{eq-eqb, eqb-true, ne_eqb}
-use Rattle.order.specs.Common.{one_if}
 use Rattle.order.proofs.Machine.{Request, Act, act}
-use Rattle.order.proofs.Lists.{Member, Spot, onto}
+use Rattle.order.proofs.Lists.{one_if, Member, Spot, onto}
 
 -- a call that was sent up: its shim, what was sent, and its place in the trace
 pub record Entry : Type 0 where

@@ -124,19 +124,11 @@ global_still {n = n} {t = t} c a {hits = hits} same q nh kn w =
 
 sends_refused : (c : Call) (r : Refusal) → sends c (Err r) ≡ false
 sends_refused (Load s x g) r = refl
-sends_refused (Store s x g w) r = refl
-sends_refused (Fence s g) r = refl
-sends_refused (Evict s x) r = refl
-sends_refused (Up s) r = refl
-sends_refused (Down s) r = refl
+sends_refused c r = refl
 
 performs_refused : (c : Call) (r : Refusal) → performs c (Err r) ≡ false
-performs_refused (Load s x g) r = refl
-performs_refused (Store s x g w) r = refl
-performs_refused (Fence s g) r = refl
-performs_refused (Evict s x) r = refl
 performs_refused (Up s) r = refl
-performs_refused (Down s) r = refl
+performs_refused c r = refl
 
 word_refused : (w : ℕ) (r : Refusal) → Ok (Value w) ≡ Err r → ⊥
 word_refused w r h = let z : ◌≡◌ {A = ℕ} 0 1 = cc in omega arith
@@ -158,12 +150,8 @@ step_refused c r same i =
 -- ## a call that is sent up
 
 sent_not_up : (c : Call) (a : Outcome) → sends c a ≡ true → performs c a ≡ false
-sent_not_up (Load s x g) a h = refl
-sent_not_up (Store s x g w) a h = refl
-sent_not_up (Fence s g) a h = refl
-sent_not_up (Evict s x) a h = refl
 sent_not_up (Up s) a h = absurd (false≢true h)
-sent_not_up (Down s) a h = absurd (false≢true h)
+sent_not_up c a h = refl
 
 sent_not_hit : (c : Call) (a : Outcome) → sends c a ≡ true → NotHit c a
 sent_not_hit c a h s x g w p q = false≢true (rw (← p, ← q) at h)
@@ -322,7 +310,7 @@ up_by {n = n} {t = t} {b = b} {b' = b'} s k e q i l wh pi ds =
           record {
             hub = hub_performs e de i.global.hub;
             known_shim = known_shim;
-            matches = log_more (Up s) (Ok (Handled k)) e refl (sym wh) i.global.matches;
+            matches = rw (← wh) (log_more (Handled k) e i.global.matches);
             hit_from = λ h m. from_old (Up s) (Ok (Handled k)) (i.global.hit_from h m);
             hit_into = into_old t (Up s) (Ok (Handled k)) i.hits (λ j x g w x₁ x₂. let z : ◌≡◌ {A = ℕ} 0 1 = cc in omega arith) i.global.hit_into;
             hit_rise = i.global.hit_rise;
@@ -491,7 +479,7 @@ fresh_invariant n b f =
           record {
             hub = record { word = f.word; stamp = f.stamp; shares = λ x s. f.shares x s };
             known_shim = λ e r k. elim k [ ];
-            matches = record { from = λ e r k. elim k [ ]; into = λ u c a k p. absurd (nothing_at u c a k); total = λ s. refl; all = refl };
+            matches = record { from = λ e r k. elim k [ ]; into = λ u s a k. absurd (nothing_at u (Up s) (Ok a) k); total = λ s. refl; all = refl };
             hit_from = λ h k. elim k [ ];
             hit_into = λ i s x g w k. absurd (nothing_at i (Load s x g) (Ok (Value w)) k);
             hit_rise = λ h h' r k. elim k [ ];

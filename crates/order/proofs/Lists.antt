@@ -1,5 +1,9 @@
 -- Lists that grow at their front: their members, what stands behind a member (its length is the member's rank), and their suffixes.
-use Rattle.std.proofs.Common.{◌≡◌, ℕ, ◌<◌, ◌≤◌, ◌⊎◌, List, [], ◌∷◌, ◌++◌, length, sym, refl, ap, ◌∙◌, inl, inr, arith}
+use Rattle.std.proofs.Common.{◌≡◌, ℕ, ◌<◌, ◌≤◌, Bool, true, false, ◌⊎◌, List, [], ◌∷◌, ◌++◌, length, sym, refl, ap, ◌∙◌, inl, inr, arith}
+
+abbrev pub one_if : Bool → ℕ
+one_if true = 1
+one_if false = 0
 
 abbrev pub Compared : ℕ → ℕ → Type 0
 Compared i j = (i ≡ j) ⊎ ((i < j) ⊎ (j < i))

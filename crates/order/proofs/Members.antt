@@ -1,13 +1,12 @@
 -- The places that stand in the order, and for each the entry or the hit that its call is.
-use Rattle.std.proofs.Common.{◌≡◌, ℕ, zero, suc, ◌<◌, Bool, true, false, ◌&&◌, ltb, ◌⊎◌, List, [], ◌∷◌, length, is_ok, Some, None, Ok, Err, Option as Maybe, sym, refl, ap, ◌∙◌, subst, inl, inr, arith}
+use Rattle.std.proofs.Common.{◌≡◌, ℕ, zero, suc, ◌<◌, Bool, true, false, ltb, ◌⊎◌, List, [], ◌∷◌, length, is_ok, Some, None, Ok, Err, Option, sym, refl, ap, ◌∙◌, subst, inl, inr, arith}
 use mathlib.Core.Bool.{false≢true}
-use mathlib.Core.Option.{Option, none, some}
-use lib.ListN.{get_elem?}
-use Rattle.std.proofs.lemmas.Bool.{cases_order, cases_eq, eq-eqb, lt-ltb, ltb-true, and_parts}
+use Rattle.std.specs.Prelude.{◌≢◌, slice_get}
+use Rattle.std.proofs.lemmas.Bool.{cases_order, cases_eq, eq-eqb, lt-ltb, ltb-true}
 use Rattle.rules.specs.declared.strength.Strength.TheVariants.{SeqCst}
 use Rattle.rules.specs.Strengths.{strength_number}
-use Rattle.order.specs.Common.{Call, Load, Store, Fence, Evict, Up, Down, Outcome, Done, Waits, Value, Ended, Handled, Event, Trace, At, shim_of, passes, sends, waits, Stores}
-use Rattle.order.specs.Common.{StoresWeakly, Wrote, GaveAtOnce, GaveLater, FenceEnded, Stands, a_store, a_load, a_fence}
+use Rattle.order.specs.Common.{Call, Load, Store, Fence, Evict, Up, Down, Outcome, Waits, Value, Ended, Event, Trace, At, shim_of, passes, sends}
+use Rattle.order.specs.Common.{Stored, at_once, later, Stands, a_store, a_load, a_fence}
 use Rattle.order.proofs.Machine.{Write, Read, Sync, ForStore, wait_after, Board}
 use Rattle.order.proofs.Lists.{onto, Compared, Member, Spot, spot_member, suffix_spot, member_onto}
 use Rattle.order.proofs.Entries.{FoundBy, Entry, made_by, member_made_by}
@@ -24,21 +23,12 @@ use Rattle.order.proofs.Keys.{find, Placed, find_some, find_member, chosen, chos
 
 -- ## which calls stand in the order (last: whether the shim has heard of the call)
 
-abbrev pub load_stands : Outcome → Bool → Bool
-load_stands (Ok Done) h = false
-load_stands (Ok Waits) h = h
-load_stands (Ok (Value w)) h = true
-load_stands (Ok Ended) h = false
-load_stands (Ok (Handled k)) h = false
-load_stands (Err r) h = false
-
 abbrev pub stands : Call → Outcome → Bool → Bool
-stands (Load s x g) a h = load_stands a h
-stands (Store s x g w) a h = is_ok a
-stands (Fence s g) a h = waits a && h
-stands (Evict s x) a h = false
-stands (Up s) a h = false
-stands (Down s) a h = false
+stands (Load s x g) (Ok Waits) h = h
+stands (Load s x g) (Ok (Value w)) h = true
+stands (Store s x g w) (Ok a) h = true
+stands (Fence s g) (Ok Waits) h = h
+stands c r h = false
 
 -- only a store sends a write
 request_store : (c : Call) (k : Bool) (x g : ℕ) (k' : Bool) (w : ℕ) → request_of c k ≡ Write x g k' w → c ≡ Store (shim_of c) x g w
@@ -49,15 +39,7 @@ request_store (Evict s y) k x g k' w e = let z : ◌≡◌ {A = ℕ} 0 1 = cc in
 request_store (Up s) k x g k' w e = let z : ◌≡◌ {A = ℕ} 0 1 = cc in absurd (omega arith)
 request_store (Down s) k x g k' w e = let z : ◌≡◌ {A = ℕ} 0 1 = cc in absurd (omega arith)
 
-waits_is : (a : Outcome) → waits a ≡ true → a ≡ Ok Waits
-waits_is (Ok Done) h = absurd (false≢true h)
-waits_is (Ok Waits) h = refl
-waits_is (Ok (Value w)) h = absurd (false≢true h)
-waits_is (Ok Ended) h = absurd (false≢true h)
-waits_is (Ok (Handled k)) h = absurd (false≢true h)
-waits_is (Err r) h = absurd (false≢true h)
-
-at_some : (t : Trace) (p : ℕ) → p < length t → (e : Event) × (get_elem? t p ≡ some e)
+at_some : (t : Trace) (p : ℕ) → p < length t → (e : Event) × (slice_get t p ≡ Some e)
 at_some [] p l = absurd (omega arith)
 at_some (e ∷ t) zero l = (e, refl)
 at_some (e ∷ t) (suc p) l = at_some t p (omega arith)
@@ -68,11 +50,11 @@ module _ {n : ℕ} {t : Trace} {b : Board} (i : Invariant n t b) where
   heard_of s p = ltb 0 (find p (i.view s).heard)
 
   abbrev pub event_stands : Option Event → ℕ → Bool
-  event_stands none p = false
-  event_stands (some e) p = passes (λ c r. stands c r (heard_of (shim_of c) p)) e
+  event_stands None p = false
+  event_stands (Some e) p = passes (λ c r. stands c r (heard_of (shim_of c) p)) e
 
   abbrev pub place_stands : ℕ → Bool
-  place_stands p = event_stands (get_elem? t p) p
+  place_stands p = event_stands (slice_get t p) p
 
   pub the_order : List ℕ
   the_order = sort (key i) (chosen place_stands (length t))
@@ -87,6 +69,10 @@ module _ {n : ℕ} {t : Trace} {b : Board} (i : Invariant n t b) where
 
   -- ## a store
 
+  -- an accepted store of shim s that is not SC
+  abbrev pub StoredWeakly : ℕ → ℕ → Type 0
+  StoredWeakly p s = (x : ℕ) × (g : ℕ) × (w : ℕ) × Stored t p s x g w × g ≢ strength_number SeqCst
+
   pub record StoreAt (p s x : ℕ) : Type 0 where
     pub low : s < n
     pub entry : Entry
@@ -94,13 +80,13 @@ module _ {n : ℕ} {t : Trace} {b : Board} (i : Invariant n t b) where
     pub place_is : entry.place ≡ p
     pub word : ℕ
     pub writes : EntryWrites entry x word
-    pub strength : Awaited entry.request ⊎ StoresWeakly t p s
+    pub strength : Awaited entry.request ⊎ StoredWeakly p s
     pub member_order : Member p the_order
 
-  pub store_at : (p s x : ℕ) → Stores t p s x → StoreAt p s x
-  store_at p s x (g, w, r, h, ok) =
-      let l = i.global.known p (Store s x g w) r h ok in
-      let q = (i.shim s l).sent.into p (Store s x g w) r h ok refl in
+  pub store_at : (p s x g w : ℕ) → Stored t p s x g w → StoreAt p s x
+  store_at p s x g w (a, h) =
+      let l = i.global.known p (Store s x g w) (Ok a) h refl in
+      let q = (i.shim s l).sent.into p (Store s x g w) (Ok a) h refl refl in
       record {
         low = l;
         entry = q.entry;
@@ -109,21 +95,21 @@ module _ {n : ℕ} {t : Trace} {b : Board} (i : Invariant n t b) where
         word = w;
         writes = write_writes q.entry x g w q.synchronise q.request_is;
         strength = weak_or_not q.entry q.synchronise q.request_is (cases_eq g (strength_number SeqCst));
-        member_order = in_order p (Store s x g w) r h ok;
+        member_order = in_order p (Store s x g w) (Ok a) h refl;
       }
     where
       weak_or_not : (e : Entry) (k : Bool) → e.request ≡ Write x g k w → (g ≡ strength_number SeqCst) ⊎ (g ≡ strength_number SeqCst → ⊥)
-          → Awaited e.request ⊎ StoresWeakly t p s
+          → Awaited e.request ⊎ StoredWeakly p s
       weak_or_not e k q (inl z) = inl (λ y. false≢true (ap is_ready (sym (ap wait_after q ∙ sc k z) ∙ y)))
         where
           sc : (k : Bool) → g ≡ strength_number SeqCst → wait_after (Write x g k w) ≡ ForStore x
           sc k z = rw (eq-eqb g (strength_number SeqCst) z)
-      weak_or_not e k q (inr z) = inr (x, g, w, r, h, ok, z)
+      weak_or_not e k q (inr z) = inr (x, g, w, (a, h), z)
 
   -- an entry that writes is a store in the trace
   pub record EntryStores (s x w : ℕ) (e : Entry) : Type 0 where
-    pub wrote : Wrote t e.place x w
-    pub stores : Stores t e.place s x
+    pub strength : ℕ
+    pub stored : Stored t e.place s x strength w
     pub member_order : Member e.place the_order
 
   pub call_stores : (s : ℕ) → s < n → (e : Entry) (q : List Entry) (x w : ℕ) → Spot e q (calls_of i s) → EntryWrites e x w → EntryStores s x w e
@@ -134,15 +120,16 @@ module _ {n : ℕ} {t : Trace} {b : Board} (i : Invariant n t b) where
       let c' : h.call ≡ Store s x y.0 w = c ∙ ap (λ (u : ℕ). Store u x y.0 w) h.shim in
       finish y.0 h.outcome (subst (λ (u : Call). At t e.place u h.outcome) c' h.at) (subst (λ (u : Call). sends u h.outcome ≡ true) c' h.sends_it)
     where
-      finish : (g : ℕ) (r : Outcome) → At t e.place (Store s x g w) r → is_ok r ≡ true → EntryStores s x w e
-      finish g r h ok = record { wrote = (s, g, r, h, ok); stores = (g, w, r, h, ok); member_order = in_order e.place (Store s x g w) r h ok }
+      finish : (g : ℕ) (r : Outcome) → At t e.place (Store s x g w) r → sends (Store s x g w) r ≡ true → EntryStores s x w e
+      finish g (Ok a) h k = record { strength = g; stored = (a, h); member_order = in_order e.place (Store s x g w) (Ok a) h refl }
+      finish g (Err r) h k = absurd (false≢true k)
 
   pub log_stores : (e : Entry) (q : List Entry) (x w : ℕ) → Spot e q i.log → EntryWrites e x w → EntryStores e.who x w e
   log_stores e q x w k wr = call_stores e.who (i.global.known_shim e q k) e (made_by e.who q) x w (log_call i e.who e q k refl) wr
 
   -- a store that the hub performed is an entry of the log that writes
-  pub stores_writes : (p s x : ℕ) → Stores t p s x → (d : Entry) (q : List Entry) → Spot d q i.log → d.place ≡ p → (v : ℕ) × EntryWrites d x v
-  stores_writes p s x (g, w, r, h, ok) d q k e =
+  pub stores_writes : (p s x g w : ℕ) → Stored t p s x g w → (d : Entry) (q : List Entry) → Spot d q i.log → d.place ≡ p → (v : ℕ) × EntryWrites d x v
+  stores_writes p s x g w (a, h) d q k e =
       let l = i.global.known_shim d q k in
       let f = (i.shim d.who l).sent.from d (made_by d.who q) (log_call i d.who d q k refl) in
       let c = at_same t p (at_moved t e f.at) h in
@@ -189,8 +176,9 @@ module _ {n : ℕ} {t : Trace} {b : Board} (i : Invariant n t b) where
       go (inr (inl e)) = absurd (k.first d w l e h)
       go (inr (inr e)) = absurd (f k.down u k.later e k.at)
 
-  pub read_at : (p s x w : ℕ) → GaveLater t p s x w → ReadAt p s x w
-  read_at p s x w (g, d, h, l, hd, f) =
+  pub read_at : (p s x w g d : ℕ) → At t p (Load s x g) (Ok Waits) → p < d → At t d (Down s) (Ok (Value w))
+      → ((k v : ℕ) → p < k → k < d → At t k (Down s) (Ok (Value v)) → ⊥) → ReadAt p s x w
+  read_at p s x w g d h l hd f =
       let lo = i.global.known p (Load s x g) (Ok Waits) h refl in
       let q = (i.shim s lo).sent.into p (Load s x g) (Ok Waits) h refl refl in
       let m = spot_member q.entry q.older (calls_of i s) q.spot in
@@ -218,8 +206,8 @@ module _ {n : ℕ} {t : Trace} {b : Board} (i : Invariant n t b) where
     pub request_is : entry.request ≡ Sync
     pub member_order : Member p the_order
 
-  pub fence_at : (p s : ℕ) → FenceEnded t p s → FenceAt p s
-  fence_at p s (g, d, h, l, hd) =
+  pub fence_at : (p s g d : ℕ) → At t p (Fence s g) (Ok Waits) → p < d → At t d (Down s) (Ok Ended) → FenceAt p s
+  fence_at p s g d h l hd =
       let lo = i.global.known p (Fence s g) (Ok Waits) h refl in
       let q = (i.shim s lo).sent.into p (Fence s g) (Ok Waits) h refl refl in
       let m = spot_member q.entry q.older (calls_of i s) q.spot in
@@ -240,8 +228,8 @@ module _ {n : ℕ} {t : Trace} {b : Board} (i : Invariant n t b) where
     pub was : WasHit p s x w i.hits
     pub member_order : Member p the_order
 
-  pub hit_at : (p s x w : ℕ) → GaveAtOnce t p s x w → HitAt p s x w
-  hit_at p s x w (g, h) =
+  pub hit_at : (p s x w g : ℕ) → At t p (Load s x g) (Ok (Value w)) → HitAt p s x w
+  hit_at p s x w g h =
       record { low = i.global.known p (Load s x g) (Ok (Value w)) h refl; was = i.global.hit_into p s x g w h; member_order = in_order p (Load s x g) (Ok (Value w)) h refl }
 
   -- ## only these stand in the order
@@ -281,25 +269,17 @@ module _ {n : ℕ} {t : Trace} {b : Board} (i : Invariant n t b) where
           }
 
   stands_is : (p : ℕ) (c : Call) (a : Outcome) → At t p c a → stands c a (heard_of (shim_of c) p) ≡ true → (s : ℕ) × Stands t p s
-  stands_is p (Load s x g) (Ok Done) h q = absurd (false≢true q)
   stands_is p (Load s x g) (Ok Waits) h q =
       let y = heard_at p (Load s x g) (Ok Waits) h refl q in
       let w = next_word s y.low y.entry y.older x g p y.spot y.who_is y.request_is y.place_is in
-      (s, a_load x (hub_word x y.older) (inr (g, w.down, h, w.later, w.at, w.first)))
-  stands_is p (Load s x g) (Ok (Value w)) h q = (s, a_load x w (inl (g, h)))
-  stands_is p (Load s x g) (Ok Ended) h q = absurd (false≢true q)
-  stands_is p (Load s x g) (Ok (Handled k)) h q = absurd (false≢true q)
-  stands_is p (Load s x g) (Err r) h q = absurd (false≢true q)
-  stands_is p (Store s x g w) a h q = (s, a_store x (g, w, a, h, q))
-  stands_is p (Fence s g) a h q =
-      let z = and_parts (waits a) (heard_of s p) q in
-      let h' : At t p (Fence s g) (Ok Waits) = rw (waits_is a z.0) at h in
-      let y = heard_at p (Fence s g) (Ok Waits) h' refl z.1 in
+      (s, a_load x (hub_word x y.older) (later g w.down h w.later w.at w.first))
+  stands_is p (Load s x g) (Ok (Value w)) h q = (s, a_load x w (at_once g h))
+  stands_is p (Store s x g w) (Ok a) h q = (s, a_store x g w (a, h))
+  stands_is p (Fence s g) (Ok Waits) h q =
+      let y = heard_at p (Fence s g) (Ok Waits) h refl q in
       let w = subst (λ (r : ℕ). SomeEnd t r s) y.place_is ((i.shim s y.low).answered.fences y.entry y.older y.spot y.who_is y.request_is) in
-      (s, a_fence (g, w.down, h', w.later, w.at))
-  stands_is p (Evict s x) a h q = absurd (false≢true q)
-  stands_is p (Up s) a h q = absurd (false≢true q)
-  stands_is p (Down s) a h q = absurd (false≢true q)
+      (s, a_fence g w.down h w.later w.at)
+  stands_is p c a h q = absurd (false≢true q)
 
   pub order_only : (p : ℕ) → Member p the_order → (s : ℕ) × Stands t p s
   unfolding the_order
@@ -308,13 +288,13 @@ module _ {n : ℕ} {t : Trace} {b : Board} (i : Invariant n t b) where
       let e = at_some t p y.0 in
       go e.0 e.0.outcome refl e.1 (rw e.1 at y.1)
     where
-      go : (e : Event) (r : Maybe Outcome) → e.outcome ≡ r → get_elem? t p ≡ some e
+      go : (e : Event) (r : Option Outcome) → e.outcome ≡ r → slice_get t p ≡ Some e
           → passes (λ c r. stands c r (heard_of (shim_of c) p)) e ≡ true → (s : ℕ) × Stands t p s
-      go e (Some r) q h k = stands_is p e.call r (h ∙ ap {B = Option Event} (λ (o : Maybe Outcome). some (record { call = e.call; outcome = o })) q) (rw q at k)
+      go e (Some r) q h k = stands_is p e.call r (h ∙ ap (λ (o : Option Outcome). Some (record { call = e.call; outcome = o })) q) (rw q at k)
       go e None q h k = absurd (false≢true (rw q at k))
 
   pub order_all : (p s : ℕ) → Stands t p s → Member p the_order
-  order_all p s (a_store x h) = (store_at p s x h).member_order
-  order_all p s (a_load x w (inl h)) = (hit_at p s x w h).member_order
-  order_all p s (a_load x w (inr h)) = (read_at p s x w h).member_order
-  order_all p s (a_fence h) = (fence_at p s h).member_order
+  order_all p s (a_store x g w h) = (store_at p s x g w h).member_order
+  order_all p s (a_load x w (at_once g h)) = (hit_at p s x w g h).member_order
+  order_all p s (a_load x w (later g d h l k f)) = (read_at p s x w g d h l k f).member_order
+  order_all p s (a_fence g d h l k) = (fence_at p s g d h l k).member_order

@@ -3,21 +3,22 @@ use Rattle.std.proofs.Common.{◌≡◌, ℕ, ◌<◌, ◌≤◌, ◌⊎◌, Lis
 use mathlib.Core.Bool.{false≢true}
 use mathlib.Core.Option.{some}
 use Rattle.std.proofs.lemmas.Bool.{cases_eq, cases_order}
-use Rattle.order.specs.Common.{Load, Value, Trace, At, shim_of, sends, performs, Performs, Performed, HubBefore, Stores, StoresWeakly, Gave, Stands, a_store, a_load, a_fence}
-use Rattle.order.specs.Common.{Before, In, StoreIn, Last, Seen, Everywhere, MayPrecede, CommonOrder}
+use Rattle.std.specs.Prelude.{Contains, ⊤}
+use Rattle.order.specs.Common.{Load, Up, Value, Trace, At, shim_of, sends, performs, count, Performs, Performed, HubBefore, Stored, Gave, at_once, later, Stands, a_store, a_load, a_fence}
+use Rattle.order.specs.Common.{Before, Last, Sees, MayPrecede, CommonOrder}
 use Rattle.order.proofs.Machine.{Read, Board, wait_after, copy, end_of, OrderStands}
 use Rattle.order.proofs.Lists.{Compared, Member, Spot, spot_member, member_spot, spot_short, spot_depth, spot_deeper, spot_behind, Suffix, suffix_short, suffix_spot, suffix_deep}
 use Rattle.order.proofs.Lists.{onto}
 use Rattle.order.proofs.Entries.{Entry, acts, requests, made_by}
 use Rattle.order.proofs.Replay.{replay, is_ready, Awaited}
 use Rattle.order.proofs.View.{hub_word, hub_stamp, hub_shares, hub_view, all_silent}
-use Rattle.order.proofs.Sort.{Lex, lex_before, before_lex, rising_once, member_in, in_member}
-use Rattle.order.proofs.Traces.{at_same, at_moved, tally, of_shim, count_tally, tally_less}
+use Rattle.order.proofs.Sort.{Lex, lex_before, before_lex, rising_once, member_contained, contained_member}
+use Rattle.order.proofs.Traces.{at_moved, tally, of_shim, count_tally, tally_less}
 use Rattle.order.proofs.Writes.{EntryWrites, read_writes_not, copy_view, WordFrom, last_write}
 use Rattle.order.proofs.Hits.{Hit, OwnStore, HubStore, HitOk}
 use Rattle.order.proofs.Invariant.{Invariant, invariant}
 use Rattle.order.proofs.Keys.{Placed, call_key, hit_key, key, calls_of, log_call, key_log, key_pending, key_hit, Status, performed, waiting, status, own_order}
-use Rattle.order.proofs.Members.{the_order, order_rising, StoreAt, store_at, EntryStores, call_stores, log_stores, stores_writes, ReadAt, read_at, fence_at, hit_at}
+use Rattle.order.proofs.Members.{the_order, order_rising, StoredWeakly, StoreAt, store_at, EntryStores, call_stores, log_stores, stores_writes, ReadAt, read_at, fence_at, hit_at}
 use Rattle.order.proofs.Members.{order_only, order_all}
 
 module _ {n : ℕ} {t : Trace} {b : Board} (i : Invariant n t b) where
@@ -42,19 +43,19 @@ module _ {n : ℕ} {t : Trace} {b : Board} (i : Invariant n t b) where
   -- the call that an up performs, by the counts of the trace, is the one that the log has for it: both are at the same rank among their shim's calls
   performed_at : (u p : ℕ) → Performs t u p → PerformedAt u p
   performed_at u p h =
-      let w = i.global.matches.into u h.up_call h.up_outcome h.up_at h.is_up in
-      finish w.entry w.older w.spot (sym w.shim ∙ h.same_shim) w.own_rank w.rank
+      let w = i.global.matches.into u h.shim h.answer h.up_at in
+      finish w.entry w.older w.spot (w.who_is ∙ sym h.own) (rw h.own w.own_rank) w.rank
     where
-      finish : (e : Entry) (r : List Entry) → Spot e r i.log → e.who ≡ shim_of h.call → tally (of_shim performs e.who) t u ≡ length (made_by e.who r)
+      finish : (e : Entry) (r : List Entry) → Spot e r i.log → e.who ≡ shim_of h.call → tally (of_shim performs (shim_of h.call)) t u ≡ length (made_by (shim_of h.call) r)
           → tally performs t u ≡ length r → PerformedAt u p
       finish e r k w own_rank rank =
           let s = shim_of h.call in
           let l : shim_of h.call < n = rw w at (i.global.known_shim e r k) in
           let q = (i.shim s l).sent.into p h.call h.outcome h.at h.is_sent refl in
           let f = (i.shim s l).sent.from q.entry q.older q.spot in
-          let a : tally (of_shim performs s) t u ≡ length (made_by s r) = rw w at own_rank in
           let c : tally (of_shim sends s) t p ≡ length q.older = subst (λ (y : ℕ). tally (of_shim sends s) t y ≡ length q.older) q.place_is f.own_rank in
-          let x : length (made_by s r) ≡ length q.older = sym a ∙ sym (count_tally performs s t u) ∙ h.same_rank ∙ count_tally sends s t p ∙ c in
+          let ranks : count performs s t u ≡ count sends s t p = rw h.own h.same_rank in
+          let x : length (made_by s r) ≡ length q.older = sym own_rank ∙ sym (count_tally performs s t u) ∙ ranks ∙ count_tally sends s t p ∙ c in
           let same : e ≡ q.entry = spot_depth e q.entry (made_by s r) q.older (calls_of i s) (log_call i s e r k w) q.spot x in
           record { entry = e; older = r; spot = k; place_is = ap (λ (y : Entry). y.place) same ∙ q.place_is; rank = rank }
 
@@ -65,53 +66,52 @@ module _ {n : ℕ} {t : Trace} {b : Board} (i : Invariant n t b) where
       let f = (i.shim e.who l).sent.from e (made_by e.who r) (log_call i e.who e r k refl) in (
         u.up,
         record {
-          up_call = u.call;
-          up_outcome = u.outcome;
+          shim = e.who;
+          answer = u.answer;
           call = f.call;
           outcome = f.outcome;
           up_at = u.at;
           at = f.at;
-          is_up = u.ups;
           is_sent = f.sends_it;
-          same_shim = u.shim ∙ sym f.shim;
-          same_rank = rw f.shim (count_tally performs e.who t u.up ∙ u.own_rank ∙ sym f.own_rank ∙ sym (count_tally sends e.who t e.place));
+          own = f.shim;
+          same_rank = count_tally performs e.who t u.up ∙ u.own_rank ∙ sym f.own_rank ∙ sym (count_tally sends e.who t e.place);
         },
       )
 
-  as_hub : (p q : ℕ) → In o p → In o q → HubBefore t p q → Before o p q
+  as_hub : (p q : ℕ) → Contains o p → Contains o q → HubBefore t p q → Before o p q
   as_hub p q ip iq (u, w, hp, hq, l) =
       let a = performed_at u p hp in
       let c = performed_at w q hq in
-      let m = tally_less performs t u w hp.up_call hp.up_outcome hp.up_at hp.is_up l in
+      let m = tally_less performs t u w (Up hp.shim) (Ok hp.answer) hp.up_at refl l in
       let ka = key_log i a.entry a.older p a.spot a.place_is in
       let kc = key_log i c.entry c.older q c.spot c.place_is in
-      by_keys p q (in_member o p ip.0 ip.1) (in_member o q iq.0 iq.1) (inl (omega (arith, ka, kc, a.rank, c.rank, m)))
+      by_keys p q (contained_member o p ip) (contained_member o q iq) (inl (omega (arith, ka, kc, a.rank, c.rank, m)))
 
-  then_rest : (p q s x : ℕ) → In o p → Performed t p → Stores t q s x → ¬ Performed t q → Before o p q
-  then_rest p q s x ip (u, hp) h not_performed =
+  then_rest : (p q s x g w : ℕ) → Contains o p → Performed t p → Stored t q s x g w → ¬ Performed t q → Before o p q
+  then_rest p q s x g w ip (u, hp) h not_performed =
       let a = performed_at u p hp in
-      let c = store_at i q s x h in
+      let c = store_at i q s x g w h in
       go c (key_log i a.entry a.older p a.spot a.place_is) (spot_short a.entry a.older i.log a.spot) (status i s c.entry c.member)
     where
       go : (c : StoreAt i q s x) {r : ℕ} → key i p ≡ call_key r → r < length i.log → Status i s c.entry → Before o p q
       go c k l (performed r m w) = absurd (not_performed (subst (Performed t) c.place_is (log_performed c.entry r m)))
       go c k l (waiting m) =
-          by_keys p q (in_member o p ip.0 ip.1) c.member_order (inl (omega (arith, k, key_pending i s c.low c.entry q m c.place_is)))
+          by_keys p q (contained_member o p ip) c.member_order (inl (omega (arith, k, key_pending i s c.low c.entry q m c.place_is)))
 
   -- ## a chip's order
 
   pub data Standing (p s : ℕ) : Type 0 where
     by_hit : (h : Hit) → Member h i.hits → h.place ≡ p → h.who ≡ s → Standing p s
-    by_call : (e : Entry) → Member e (calls_of i s) → e.place ≡ p → Awaited e.request ⊎ StoresWeakly t p s → Standing p s
+    by_call : (e : Entry) → Member e (calls_of i s) → e.place ≡ p → Awaited e.request ⊎ StoredWeakly i p s → Standing p s
 
   standing : (p s : ℕ) → Stands t p s → Standing p s × (s < n)
-  standing p s (a_store x h) = let c = store_at i p s x h in (by_call c.entry c.member c.place_is c.strength, c.low)
-  standing p s (a_load x w (inl h)) = let c = hit_at i p s x w h in (by_hit c.was.hit c.was.member c.was.place_is c.was.who_is, c.low)
-  standing p s (a_load x w (inr h)) =
-      let c = read_at i p s x w h in
+  standing p s (a_store x g w h) = let c = store_at i p s x g w h in (by_call c.entry c.member c.place_is c.strength, c.low)
+  standing p s (a_load x w (at_once g h)) = let c = hit_at i p s x w g h in (by_hit c.was.hit c.was.member c.was.place_is c.was.who_is, c.low)
+  standing p s (a_load x w (later g d h l k f)) =
+      let c = read_at i p s x w g d h l k f in
       (by_call c.entry c.member c.place_is (inl (λ y. false≢true (ap is_ready (sym (ap wait_after c.request_is) ∙ y)))), c.low)
-  standing p s (a_fence h) =
-      let c = fence_at i p s h in
+  standing p s (a_fence g d h l k) =
+      let c = fence_at i p s g d h l k in
       (by_call c.entry c.member c.place_is (inl (λ y. false≢true (ap is_ready (sym (ap wait_after c.request_is) ∙ y)))), c.low)
 
   hits_order : (h h' : Hit) → Member h i.hits → Member h' i.hits → h.place < h'.place → h.who ≡ h'.who → length h.seen ≤ length h'.seen
@@ -140,7 +140,7 @@ module _ {n : ℕ} {t : Trace} {b : Board} (i : Invariant n t b) where
       let f = i.global.hit_from d md in
       let at : At t q (Load s d.line f.strength) (Ok (Value d.word)) =
       subst (λ (y : ℕ). At t q (Load y d.line f.strength) (Ok (Value d.word))) wd (at_moved t pd f.at) in
-      absurd (np ((d.line, d.word, inl (f.strength, at)), ke))
+      absurd (np ((d.line, d.word, at_once f.strength at), ke))
   chip_keys p q s l h (by_hit d md pd wd) (by_call e me pe ke) np = go (status i s e me)
     where
       go : Status i s e → Lex (key i) p q
@@ -162,21 +162,21 @@ module _ {n : ℕ} {t : Trace} {b : Board} (i : Invariant n t b) where
   -- ## values
 
   -- where the stores to line x in P are those of a part p of the log, the last of them wrote the hub's word after p
-  last_in : (P : ℕ → Type 0) (x w : ℕ) (p : List Entry) → ((e : Entry) (r : List Entry) → Spot e r p → Spot e r i.log) → w ≡ hub_word x p
-      → ((e : Entry) (r : List Entry) (v : ℕ) → Spot e r p → EntryWrites e x v → P e.place)
-      → ((k s : ℕ) → Stores t k s x → P k → Placed p k)
+  last_in : (P : ℕ → ℕ → Type 0) (x w : ℕ) (p : List Entry) → ((e : Entry) (r : List Entry) → Spot e r p → Spot e r i.log) → w ≡ hub_word x p
+      → ((e : Entry) (r : List Entry) (v : ℕ) → Spot e r p → EntryWrites e x v → P e.place e.who)
+      → ((k s g v : ℕ) → Stored t k s x g v → P k s → Placed p k)
       → Last t o P x w
   last_in P x w p sub e visible covered = go (last_write x p)
     where
       go : WordFrom x p → Last t o P x w
       go (inr h) = inr (none, e ∙ h.1)
         where
-          none : (k : ℕ) → StoreIn t P x k → ⊥
-          none k (pk, (s, y)) =
-              let d = covered k s y pk in
-              let v = stores_writes i k s x y d.entry d.older (sub d.entry d.older d.spot) d.place_is in
+          none : (k s g v : ℕ) → Stored t k s x g v → P k s → ⊥
+          none k s g u y pk =
+              let d = covered k s g u y pk in
+              let v = stores_writes i k s x g u y d.entry d.older (sub d.entry d.older d.spot) d.place_is in
               h.0 d.entry d.older v.0 d.spot v.1
-      go (inl h) = inl (h.entry.place, visible h.entry h.older (hub_word x p) h.spot h.writes, rw e st.wrote, others)
+      go (inl h) = inl (h.entry.place, h.entry.who, st.strength, rw e st.stored, visible h.entry h.older (hub_word x p) h.spot h.writes, others)
         where
           spot : Spot h.entry h.older i.log
           spot = sub h.entry h.older h.spot
@@ -184,8 +184,8 @@ module _ {n : ℕ} {t : Trace} {b : Board} (i : Invariant n t b) where
           st : EntryStores i h.entry.who x (hub_word x p) h.entry
           st = log_stores i h.entry h.older x (hub_word x p) spot h.writes
 
-          others : (k : ℕ) → StoreIn t P x k → k ≡ h.entry.place ⊎ Before o k h.entry.place
-          others k (pk, (s, y)) = compare (covered k s y pk)
+          others : (k s g v : ℕ) → Stored t k s x g v → P k s → k ≡ h.entry.place ⊎ Before o k h.entry.place
+          others k s g u y pk = compare (covered k s g u y pk)
             where
               compare : Placed p k → k ≡ h.entry.place ⊎ Before o k h.entry.place
               compare d = cases (cases_order (length d.older) (length h.older))
@@ -198,9 +198,9 @@ module _ {n : ℕ} {t : Trace} {b : Board} (i : Invariant n t b) where
                   cases (inr (inl c)) =
                       let kd = key_log i d.entry d.older k dl d.place_is in
                       let kh = key_log i h.entry h.older h.entry.place spot refl in
-                      inr (by_keys k h.entry.place (store_at i k s x y).member_order st.member_order (inl (omega (arith, kd, kh))))
+                      inr (by_keys k h.entry.place (store_at i k s x g u y).member_order st.member_order (inl (omega (arith, kd, kh))))
                   cases (inr (inr c)) =
-                      let v = stores_writes i k s x y d.entry d.older dl d.place_is in
+                      let v = stores_writes i k s x g u y d.entry d.older dl d.place_is in
                       absurd (omega (arith, h.latest d.entry d.older v.0 d.spot v.1))
 
   -- ### no message waits
@@ -212,20 +212,20 @@ module _ {n : ℕ} {t : Trace} {b : Board} (i : Invariant n t b) where
       go [] h = refl
       go (e ∷ p) h = let z : ◌≡◌ {A = ℕ} 0 1 = cc in absurd (omega arith)
 
-  quiet_last : (end_of n b).Quiet → (x w : ℕ) → w ≡ hub_word x i.log → Last t o Everywhere x w
-  quiet_last quiet x w e = last_in Everywhere x w i.log (λ d r k. k) e (λ d r v k h. tt) covered
+  quiet_last : (end_of n b).Quiet → (x w : ℕ) → w ≡ hub_word x i.log → Last t o (λ k s. ⊤) x w
+  quiet_last quiet x w e = last_in (λ k s. ⊤) x w i.log (λ d r k. k) e (λ d r v k h. tt) covered
     where
-      covered : (k s : ℕ) → Stores t k s x → Unit {0} → Placed i.log k
-      covered k s h y = let c = store_at i k s x h in go c (status i s c.entry c.member)
+      covered : (k s g v : ℕ) → Stored t k s x g v → ⊤ → Placed i.log k
+      covered k s g v h y = let c = store_at i k s x g v h in go c (status i s c.entry c.member)
         where
           go : (c : StoreAt i k s x) → Status i s c.entry → Placed i.log k
           go c (performed r m w) = record { entry = c.entry; older = r; spot = m; place_is = c.place_is }
           go c (waiting m) = absurd (let y : Member c.entry [] = rw (quiet_pending quiet s c.low) at m in y)
 
-  words : (end_of n b).Quiet → (x w : ℕ) → b.word x ≡ w → Last t o Everywhere x w
+  words : (end_of n b).Quiet → (x w : ℕ) → b.word x ≡ w → Last t o (λ k s. ⊤) x w
   words quiet x w h = quiet_last quiet x w (sym h ∙ i.global.hub.word x)
 
-  copies : (end_of n b).Quiet → (s x w : ℕ) → (s < n) × copy (b.line s x) ≡ some w → Last t o Everywhere x w
+  copies : (end_of n b).Quiet → (s x w : ℕ) → (s < n) × copy (b.line s x) ≡ some w → Last t o (λ k s. ⊤) x w
   copies quiet s x w (l, c) =
       let f = (i.shim s l).follows in
       let v = i.view s in
@@ -239,13 +239,9 @@ module _ {n : ℕ} {t : Trace} {b : Board} (i : Invariant n t b) where
 
   -- ### loads
 
-  -- a store of shim s, also where it is given as a store of some shim to line x
-  own_store_at : (k s s' x x' : ℕ) → Stores t k s' x → Stores t k s x' → StoreAt i k s x
-  own_store_at k s s' x x' h h' = subst (λ (y : ℕ). StoreAt i k y x) (ap shim_of (at_same t k h.3 h'.3).0) (store_at i k s' x h)
-
   -- an entry of a part p of the log stands before a load with a key above those of p
   visible_in : (j s x : ℕ) (p : List Entry) → Member j o → ((e : Entry) (r : List Entry) → Spot e r p → Spot e r i.log) → ((r : ℕ) → r < length p → call_key r < key i j)
-      → (e : Entry) (r : List Entry) (v : ℕ) → Spot e r p → EntryWrites e x v → Seen t o s j e.place
+      → (e : Entry) (r : List Entry) (v : ℕ) → Spot e r p → EntryWrites e x v → Sees o s j e.place e.who
   visible_in j s x p mj sub above e r v k wr =
       let m = sub e r k in
       inl (by_keys e.place j (log_stores i e r x v m wr).member_order mj (inl (omega (arith, key_log i e r e.place m refl, above (length r) (spot_short e r p k)))))
@@ -269,8 +265,8 @@ module _ {n : ℕ} {t : Trace} {b : Board} (i : Invariant n t b) where
       go (waiting h) (inl a) = absurd (omega (arith, kp h, kj, spot_short e r i.log m))
       go (waiting h) (inr a) = absurd (omega (arith, kp h, kj, spot_short e r i.log m, a.0))
 
-  late_load : (j s x w : ℕ) → ReadAt i j s x w → Last t o (Seen t o s j) x w
-  late_load j s x w c = last_in (Seen t o s j) x w c.older sub c.word_is (visible_in j s x c.older c.member_order sub (λ r l. omega (arith, kj))) covered
+  late_load : (j s x w : ℕ) → ReadAt i j s x w → Last t o (Sees o s j) x w
+  late_load j s x w c = last_in (Sees o s j) x w c.older sub c.word_is (visible_in j s x c.older c.member_order sub (λ r l. omega (arith, kj))) covered
     where
       kj : key i j ≡ call_key (length c.older)
       kj = key_log i c.entry c.older j c.spot c.place_is
@@ -281,10 +277,10 @@ module _ {n : ℕ} {t : Trace} {b : Board} (i : Invariant n t b) where
       reads : (k s' : ℕ) → StoreAt i k s' x → Lex (key i) k j → Placed c.older k
       reads k s' a lex = covered_by_read k s' x j c.entry c.older x c.strength c.spot c.request_is kj a lex
 
-      covered : (k s' : ℕ) → Stores t k s' x → Seen t o s j k → Placed c.older k
-      covered k s' h (inl y) = reads k s' (store_at i k s' x h) (keys_of k j y)
-      covered k s' h (inr (l, (x', h'))) =
-          let a = own_store_at k s s' x x' h h' in
+      covered : (k s' g v : ℕ) → Stored t k s' x g v → Sees o s j k s' → Placed c.older k
+      covered k s' g v h (inl y) = reads k s' (store_at i k s' x g v h) (keys_of k j y)
+      covered k s' g v h (inr (own, l)) =
+          let a = store_at i k s x g v (rw own at h) in
           reads k s a (own_order i s c.low a.entry c.entry k j a.member c.member a.place_is c.place_is l)
 
   -- a store that stands before a hit is in what the hit has seen
@@ -302,7 +298,7 @@ module _ {n : ℕ} {t : Trace} {b : Board} (i : Invariant n t b) where
       go (waiting y) (inr a) = absurd (omega (arith, key_pending i s c.low c.entry k y c.place_is, kj, suffix_short h.seen i.log tl, a.0))
 
   -- a load answered at once reads its chip's own last store, where the chip has not heard of it yet, or else the last store that it has heard of
-  hit_load : (h : Hit) (s : ℕ) → s < n → Member h i.hits → h.who ≡ s → Member h.place o → Last t o (Seen t o s h.place) h.line h.word
+  hit_load : (h : Hit) (s : ℕ) → s < n → Member h i.hits → h.who ≡ s → Member h.place o → Last t o (Sees o s h.place) h.line h.word
   hit_load h s l m w mo = go (hit_ok h s m w l).value
     where
       tl : Suffix h.seen i.log
@@ -311,26 +307,26 @@ module _ {n : ℕ} {t : Trace} {b : Board} (i : Invariant n t b) where
       kj : key i h.place ≡ hit_key (length h.seen)
       kj = key_hit i h h.place m refl
 
-      hub : HubStore (calls_of i s) h → Last t o (Seen t o s h.place) h.line h.word
+      hub : HubStore (calls_of i s) h → Last t o (Sees o s h.place) h.line h.word
       hub y =
           let visible = visible_in h.place s h.line h.seen mo sub (λ r l. omega (arith, kj)) in
-          last_in (Seen t o s h.place) h.line h.word h.seen sub y.word_is visible covered
+          last_in (Sees o s h.place) h.line h.word h.seen sub y.word_is visible covered
         where
           sub : (d : Entry) (q : List Entry) → Spot d q h.seen → Spot d q i.log
           sub d q k = suffix_spot d q h.seen i.log tl k
 
-          covered : (k s' : ℕ) → Stores t k s' h.line → Seen t o s h.place k → Placed h.seen k
-          covered k s' a (inl z) =
-              let c = store_at i k s' h.line a in
+          covered : (k s' g v : ℕ) → Stored t k s' h.line g v → Sees o s h.place k s' → Placed h.seen k
+          covered k s' g v a (inl z) =
+              let c = store_at i k s' h.line g v a in
               let f = covered_by_hit k s' h.line h m tl c (keys_of k h.place z) in
               record { entry = c.entry; older = f.0; spot = suffix_deep c.entry f.0 h.seen i.log tl f.1.0 f.1.1; place_is = c.place_is }
-          covered k s' a (inr (z, (x', a'))) =
-              let c = own_store_at k s s' h.line x' a a' in
+          covered k s' g v a (inr (own, z)) =
+              let c = store_at i k s h.line g v (rw own at a) in
               let f = y.heard c.entry c.word c.member (rw c.place_is z) c.writes in
               record { entry = c.entry; older = f.0; spot = f.1; place_is = c.place_is }
 
-      own_store : OwnStore i.log (calls_of i s) h → Last t o (Seen t o s h.place) h.line h.word
-      own_store y = inl (y.entry.place, inr (y.earlier, (h.line, st.stores)), st.wrote, others)
+      own_store : OwnStore i.log (calls_of i s) h → Last t o (Sees o s h.place) h.line h.word
+      own_store y = inl (y.entry.place, s, st.strength, st.stored, inr (refl, y.earlier), others)
         where
           st : EntryStores i s h.line h.word y.entry
           st = let q = member_spot y.entry (calls_of i s) y.member in call_stores i s l y.entry q.0 h.line h.word q.1 y.writes
@@ -339,14 +335,14 @@ module _ {n : ℕ} {t : Trace} {b : Board} (i : Invariant n t b) where
           far kp lt (performed q k u) = inl (omega (arith, kp, key_log i y.entry q y.entry.place k refl, y.unheard q k))
           far kp lt (waiting k) = inl (omega (arith, kp, key_pending i s l y.entry y.entry.place k refl, suffix_short h.seen i.log tl))
 
-          others : (k : ℕ) → StoreIn t (Seen t o s h.place) h.line k → k ≡ y.entry.place ⊎ Before o k y.entry.place
-          others k (inl z, (s', a)) =
-              let c = store_at i k s' h.line a in
+          others : (k s' g v : ℕ) → Stored t k s' h.line g v → Sees o s h.place k s' → k ≡ y.entry.place ⊎ Before o k y.entry.place
+          others k s' g v a (inl z) =
+              let c = store_at i k s' h.line g v a in
               let f = covered_by_hit k s' h.line h m tl c (keys_of k h.place z) in
               let lex = far (key_log i c.entry f.0 k f.1.0 c.place_is) f.1.1 (status i s y.entry y.member) in
               inr (by_keys k y.entry.place c.member_order st.member_order lex)
-          others k (inr (z, (x', a')), (s', a)) =
-              let c = own_store_at k s s' h.line x' a a' in
+          others k s' g v a (inr (own, z)) =
+              let c = store_at i k s h.line g v (rw own at a) in
               compare c (y.latest c.entry c.word c.member (rw c.place_is z) c.writes) (cases_eq k y.entry.place)
             where
               compare : (c : StoreAt i k s h.line) → c.entry.place ≤ y.entry.place → (k ≡ y.entry.place) ⊎ (k ≡ y.entry.place → ⊥)
@@ -357,27 +353,27 @@ module _ {n : ℕ} {t : Trace} {b : Board} (i : Invariant n t b) where
                   let lex = own_order i s l c.entry y.entry k y.entry.place c.member y.member c.place_is refl lt in
                   inr (by_keys k y.entry.place c.member_order st.member_order lex)
 
-      go : OwnStore i.log (calls_of i s) h ⊎ HubStore (calls_of i s) h → Last t o (Seen t o s h.place) h.line h.word
+      go : OwnStore i.log (calls_of i s) h ⊎ HubStore (calls_of i s) h → Last t o (Sees o s h.place) h.line h.word
       go (inl y) = own_store y
       go (inr y) = hub y
 
-  loads : (j s x w : ℕ) → Gave t j s x w → Last t o (Seen t o s j) x w
-  loads j s x w (inl h) =
-      let c = hit_at i j s x w h in
+  loads : (j s x w : ℕ) → Gave t j s x w → Last t o (Sees o s j) x w
+  loads j s x w (at_once g h) =
+      let c = hit_at i j s x w g h in
       let y = c.was in
       moved y.hit y.place_is y.line_is y.word_is (λ mo. hit_load y.hit s c.low y.member y.who_is mo) c.member_order
     where
-      moved : (d : Hit) → d.place ≡ j → d.line ≡ x → d.word ≡ w → (Member d.place o → Last t o (Seen t o s d.place) d.line d.word) → Member j o
-          → Last t o (Seen t o s j) x w
+      moved : (d : Hit) → d.place ≡ j → d.line ≡ x → d.word ≡ w → (Member d.place o → Last t o (Sees o s d.place) d.line d.word) → Member j o
+          → Last t o (Sees o s j) x w
       moved d p q r f mo = rw (← p, ← q, ← r) (f (rw p mo))
-  loads j s x w (inr h) = late_load j s x w (read_at i j s x w h)
+  loads j s x w (later g d h l k f) = late_load j s x w (read_at i j s x w g d h l k f)
 
   pub common : CommonOrder t (end_of n b) o
   common =
       record {
         once = rising_once (key i) o (order_rising i);
-        only = λ p m. order_only i p (in_member o p m.0 m.1);
-        all = λ p s c. member_in o p (order_all i p s c);
+        only = λ p m. order_only i p (contained_member o p m);
+        all = λ p s c. member_contained o p (order_all i p s c);
         as_hub = as_hub;
         then_rest = then_rest;
         as_chip = as_chip;

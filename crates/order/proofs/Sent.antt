@@ -1,7 +1,7 @@
 -- The entries of a shim are the calls that the trace shows as sent up, and the log is what the trace shows as performed, rank by rank.
-use Rattle.std.proofs.Common.{◌≡◌, ℕ, ◌≤◌, Bool, true, false, ◌&&◌, eqb, List, [], ◌∷◌, length, sym, refl, ap, ◌∙◌, inl, inr, true≢false, arith}
+use Rattle.std.proofs.Common.{◌≡◌, ℕ, ◌≤◌, Bool, true, false, ◌&&◌, eqb, List, [], ◌∷◌, length, Ok, sym, refl, ap, ◌∙◌, inl, inr, true≢false, arith}
 use Rattle.std.proofs.lemmas.Bool.{and_right, eq-eqb, and_from}
-use Rattle.order.specs.Common.{Call, Load, Store, Fence, Evict, Up, Down, Outcome, Trace, At, shim_of, sends, performs}
+use Rattle.order.specs.Common.{Call, Load, Store, Fence, Evict, Up, Down, Answer, Outcome, Trace, At, shim_of, sends, performs}
 use Rattle.order.proofs.Machine.{Request, Write, Read, Sync, Drop}
 use Rattle.order.proofs.Lists.{Spot}
 use Rattle.order.proofs.Entries.{Entry, made_by, made_by_count, Descending, descending_more}
@@ -113,27 +113,24 @@ sent_more {t = t} c a {s = s} {l = l} e k p j i o h =
 -- entry e, performed after r, has an accepted up in the trace, of the same rank among the ups of its shim and among all ups
 pub record IsLogged (t : Trace) (e : Entry) (r : List Entry) : Type 0 where
   pub up : ℕ
-  pub call : Call
-  pub outcome : Outcome
-  pub at : At t up call outcome
-  pub ups : performs call outcome ≡ true
-  pub shim : shim_of call ≡ e.who
+  pub answer : Answer
+  pub at : At t up (Up e.who) (Ok answer)
   pub own_rank : tally (of_shim performs e.who) t up ≡ length (made_by e.who r)
   pub rank : tally performs t up ≡ length r
 
--- the up c at place u has an entry in the log
-pub record WasLogged (t : Trace) (u : ℕ) (c : Call) (log : List Entry) : Type 0 where
+-- the up of shim s at place u has an entry in the log
+pub record WasLogged (t : Trace) (u s : ℕ) (log : List Entry) : Type 0 where
   pub entry : Entry
   pub older : List Entry
   pub spot : Spot entry older log
-  pub shim : shim_of c ≡ entry.who
-  pub own_rank : tally (of_shim performs entry.who) t u ≡ length (made_by entry.who older)
+  pub who_is : entry.who ≡ s
+  pub own_rank : tally (of_shim performs s) t u ≡ length (made_by s older)
   pub rank : tally performs t u ≡ length older
 
 -- the log, newest first, is what the accepted ups of the trace performed
 pub record LogMatches (t : Trace) (log : List Entry) : Type 0 where
   pub from : (e : Entry) (r : List Entry) → Spot e r log → IsLogged t e r
-  pub into : (u : ℕ) (c : Call) (a : Outcome) → At t u c a → performs c a ≡ true → WasLogged t u c log
+  pub into : (u s : ℕ) (a : Answer) → At t u (Up s) (Ok a) → WasLogged t u s log
   pub total : (s : ℕ) → tally (of_shim performs s) t (length t) ≡ length (made_by s log)
   pub all : tally performs t (length t) ≡ length log
 
@@ -142,25 +139,21 @@ is_logged_old {t = t} c a {e = e} h =
     let l : h.up ≤ length t = omega (arith, at_lt t h.up h.at) in
     record {
       up = h.up;
-      call = h.call;
-      outcome = h.outcome;
+      answer = h.answer;
       at = at_old t (event c a ∷ []) h.up h.at;
-      ups = h.ups;
-      shim = h.shim;
       own_rank = tally_old (of_shim performs e.who) t (event c a ∷ []) h.up l ∙ h.own_rank;
       rank = tally_old performs t (event c a ∷ []) h.up l ∙ h.rank;
     }
 
-was_logged_old : {t : Trace} (c : Call) (a : Outcome) {u : ℕ} {c' : Call} {a' : Outcome} {log : List Entry} → At t u c' a' → WasLogged t u c' log
-    → WasLogged (then t c a) u c' log
-was_logged_old {t = t} c a {u = u} k h =
+was_logged_old : {t : Trace} (c : Call) (a : Outcome) {u s : ℕ} {a' : Answer} {log : List Entry} → At t u (Up s) (Ok a') → WasLogged t u s log → WasLogged (then t c a) u s log
+was_logged_old {t = t} c a {u = u} {s = s} k h =
     let l : u ≤ length t = omega (arith, at_lt t u k) in
     record {
       entry = h.entry;
       older = h.older;
       spot = h.spot;
-      shim = h.shim;
-      own_rank = tally_old (of_shim performs h.entry.who) t (event c a ∷ []) u l ∙ h.own_rank;
+      who_is = h.who_is;
+      own_rank = tally_old (of_shim performs s) t (event c a ∷ []) u l ∙ h.own_rank;
       rank = tally_old performs t (event c a ∷ []) u l ∙ h.rank;
     }
 
@@ -168,46 +161,50 @@ pub log_still : {t : Trace} (c : Call) (a : Outcome) {log : List Entry} → perf
 log_still {t = t} c a {log = log} q h =
     record {
       from = λ e r k. is_logged_old c a (h.from e r k);
-      into = λ u c' a' k p. go u c' a' p (at_snoc t c a k);
+      into = λ u s a' k. go u s a' (at_snoc t c a k);
       total = λ s. rw length_then (tally_new (of_shim performs s) t c a ∙ rw (and_right (eqb (shim_of c) s) (performs c a) q) (omega (arith, h.total s)));
       all = rw length_then (tally_new performs t c a ∙ rw q (omega (arith, h.all)));
     }
   where
-    go : (u : ℕ) (c' : Call) (a' : Outcome) → performs c' a' ≡ true → OldOrLast t c a u c' a' → WasLogged (then t c a) u c' log
-    go u c' a' p (inl k) = was_logged_old c a k (h.into u c' a' k p)
-    go u c' a' p (inr k) = absurd (true≢false (sym p ∙ rw (k.1, k.2) q))
+    go : (u s : ℕ) (a' : Answer) → OldOrLast t c a u (Up s) (Ok a') → WasLogged (then t c a) u s log
+    go u s a' (inl k) = was_logged_old c a k (h.into u s a' k)
+    go u s a' (inr k) = absurd (true≢false (rw (← k.1, ← k.2) at q))
 
-and_on : (b c : Bool) → c ≡ true → (b && c) ≡ b
-and_on true c h = h
-and_on false c h = refl
+and_true : (b : Bool) → (b && true) ≡ b
+and_true true = refl
+and_true false = refl
 
-pub log_more : {t : Trace} (c : Call) (a : Outcome) {log : List Entry} (e : Entry) → performs c a ≡ true → shim_of c ≡ e.who → LogMatches t log
-    → LogMatches (then t c a) (e ∷ log)
-log_more {t = t} c a {log = log} e p j h =
+up_same : {s s' : ℕ} → Up s ≡ Up s' → s ≡ s'
+up_same h = cc
+
+pub log_more : {t : Trace} (a : Answer) {log : List Entry} (e : Entry) → LogMatches t log → LogMatches (then t (Up e.who) (Ok a)) (e ∷ log)
+log_more {t = t} a {log = log} e h =
     record {
       from = back;
-      into = λ u c' a' k p'. go u c' a' p' (at_snoc t c a k);
-      total = λ s. rw length_then (tally_new (of_shim performs s) t c a
-          ∙ rw (and_on (eqb (shim_of c) s) (performs c a) p, j) (omega (arith, h.total s, made_by_count s e log (eqb e.who s) refl)));
-      all = rw length_then (tally_new performs t c a ∙ rw p (omega (arith, h.all)));
+      into = λ u s a' k. go u s a' (at_snoc t (Up e.who) (Ok a) k);
+      total = λ s. rw length_then (tally_new (of_shim performs s) t (Up e.who) (Ok a)
+          ∙ rw (and_true (eqb e.who s)) (omega (arith, h.total s, made_by_count s e log (eqb e.who s) refl)));
+      all = rw length_then (tally_new performs t (Up e.who) (Ok a) ∙ omega (arith, h.all));
     }
   where
-    own_ranked : tally (of_shim performs e.who) (then t c a) (length t) ≡ length (made_by e.who log)
-    own_ranked = tally_old (of_shim performs e.who) t (event c a ∷ []) (length t) (omega arith) ∙ h.total e.who
+    later : Trace
+    later = then t (Up e.who) (Ok a)
 
-    ranked : tally performs (then t c a) (length t) ≡ length log
-    ranked = tally_old performs t (event c a ∷ []) (length t) (omega arith) ∙ h.all
+    own_ranked : tally (of_shim performs e.who) later (length t) ≡ length (made_by e.who log)
+    own_ranked = tally_old (of_shim performs e.who) t (event (Up e.who) (Ok a) ∷ []) (length t) (omega arith) ∙ h.total e.who
 
-    new : IsLogged (then t c a) e log
-    new = record { up = length t; call = c; outcome = a; at = at_new t c a; ups = p; shim = j; own_rank = own_ranked; rank = ranked }
+    ranked : tally performs later (length t) ≡ length log
+    ranked = tally_old performs t (event (Up e.who) (Ok a) ∷ []) (length t) (omega arith) ∙ h.all
 
-    back : (d : Entry) (r : List Entry) → Spot d r (e ∷ log) → IsLogged (then t c a) d r
-    back d r (inl m) = rw (m.0, m.1) new
-    back d r (inr m) = is_logged_old c a (h.from d r m)
+    back : (d : Entry) (r : List Entry) → Spot d r (e ∷ log) → IsLogged later d r
+    back d r (inl m) = rw (m.0, m.1) record { up = length t; answer = a; at = at_new t (Up e.who) (Ok a); own_rank = own_ranked; rank = ranked }
+    back d r (inr m) = is_logged_old (Up e.who) (Ok a) (h.from d r m)
 
-    deeper : (u : ℕ) (c' : Call) → WasLogged (then t c a) u c' log → WasLogged (then t c a) u c' (e ∷ log)
-    deeper u c' w = record { entry = w.entry; older = w.older; spot = inr w.spot; shim = w.shim; own_rank = w.own_rank; rank = w.rank }
+    deeper : (u s : ℕ) → WasLogged later u s log → WasLogged later u s (e ∷ log)
+    deeper u s w = record { entry = w.entry; older = w.older; spot = inr w.spot; who_is = w.who_is; own_rank = w.own_rank; rank = w.rank }
 
-    go : (u : ℕ) (c' : Call) (a' : Outcome) → performs c' a' ≡ true → OldOrLast t c a u c' a' → WasLogged (then t c a) u c' (e ∷ log)
-    go u c' a' p' (inl k) = deeper u c' (was_logged_old c a k (h.into u c' a' k p'))
-    go u c' a' p' (inr k) = record { entry = e; older = log; spot = inl (refl, refl); shim = ap shim_of k.1 ∙ j; own_rank = rw k.0 own_ranked; rank = rw k.0 ranked }
+    go : (u s : ℕ) (a' : Answer) → OldOrLast t (Up e.who) (Ok a) u (Up s) (Ok a') → WasLogged later u s (e ∷ log)
+    go u s a' (inl k) = deeper u s (was_logged_old (Up e.who) (Ok a) k (h.into u s a' k))
+    go u s a' (inr k) =
+        let w : s ≡ e.who = up_same k.1 in
+        record { entry = e; older = log; spot = inl (refl, refl); who_is = sym w; own_rank = rw (w, k.0) own_ranked; rank = rw k.0 ranked }

@@ -1,9 +1,8 @@
 -- Places sorted by a key, and at equal keys by the place itself.
-use Rattle.std.proofs.Common.{◌≡◌, ℕ, zero, suc, ◌<◌, ◌⊎◌, List, [], ◌∷◌, sym, ap, ◌∙◌, inl, inr, arith}
-use mathlib.Core.Option.{Option, some}
-use lib.ListN.{get_elem?}
+use Rattle.std.proofs.Common.{◌≡◌, ℕ, zero, suc, ◌<◌, ◌⊎◌, List, [], ◌∷◌, length, Some, sym, ap, ◌∙◌, inl, inr, arith}
+use Rattle.std.specs.Prelude.{slice_get, slice_index_or, Contains}
 use Rattle.std.proofs.lemmas.Bool.{cases_order}
-use Rattle.order.specs.Common.{Before, In}
+use Rattle.order.specs.Common.{Before}
 use Rattle.order.proofs.Lists.{Compared, Member}
 
 -- ## insertion sort
@@ -120,31 +119,45 @@ module _ (key : ℕ → ℕ) where
 
 -- ## members and positions
 
-pub member_in : (o : List ℕ) (i : ℕ) → Member i o → In o i
-member_in [] i m = elim m [ ]
-member_in (j ∷ o) i (inl e) = (0, ap {B = Option ℕ} some (sym e))
-member_in (j ∷ o) i (inr m) = let r = member_in o i m in (suc r.0, r.1)
+pub member_contained : (o : List ℕ) (i : ℕ) → Member i o → Contains o i
+member_contained [] i m = elim m [ ]
+member_contained (j ∷ o) i (inl e) = (0, omega arith, sym e)
+member_contained (j ∷ o) i (inr m) = let r = member_contained o i m in (suc r.0, omega (arith, r.1), r.2)
 
-pub in_member : (o : List ℕ) (i p : ℕ) → get_elem? o p ≡ some i → Member i o
-in_member [] i p h = let z : ◌≡◌ {A = ℕ} 0 1 = cc in absurd (omega arith)
-in_member (j ∷ o) i zero h = inl (let k : j ≡ i = cc in sym k)
-in_member (j ∷ o) i (suc p) h = inr (in_member o i p h)
+contained_at : (o : List ℕ) (i p : ℕ) → p < length o → slice_index_or o p i ≡ i → Member i o
+contained_at [] i p l h = absurd (omega arith)
+contained_at (j ∷ o) i zero l h = inl (sym h)
+contained_at (j ∷ o) i (suc p) l h = inr (contained_at o i p (omega arith) h)
+
+pub contained_member : (o : List ℕ) (i : ℕ) → Contains o i → Member i o
+contained_member o i h = contained_at o i h.0 h.1 h.2
+
+-- a member has a position
+placed : (o : List ℕ) (i : ℕ) → Member i o → (p : ℕ) × (slice_get o p ≡ Some i)
+placed [] i m = elim m [ ]
+placed (j ∷ o) i (inl e) = (0, ap Some (sym e))
+placed (j ∷ o) i (inr m) = let r = placed o i m in (suc r.0, r.1)
+
+placed_member : (o : List ℕ) (i p : ℕ) → slice_get o p ≡ Some i → Member i o
+placed_member [] i p h = let z : ◌≡◌ {A = ℕ} 0 1 = cc in absurd (omega arith)
+placed_member (j ∷ o) i zero h = inl (let k : j ≡ i = cc in sym k)
+placed_member (j ∷ o) i (suc p) h = inr (placed_member o i p h)
 
 module _ (key : ℕ → ℕ) where
   pub lex_before : (o : List ℕ) → Rising key o → (i j : ℕ) → Member i o → Member j o → Lex key i j → Before o i j
   lex_before [] r i j m m' h = elim m [ ]
   lex_before (k ∷ o) r i j (inl e) (inl d) h = absurd (lex_irrefl key i (let q : j ≡ i = d ∙ sym e in rw q at h))
-  lex_before (k ∷ o) r i j (inl e) (inr m) h = let q = member_in o j m in (0, suc q.0, ap {B = Option ℕ} some (sym e), q.1, omega arith)
+  lex_before (k ∷ o) r i j (inl e) (inr m) h = let q = placed o j m in (0, suc q.0, ap Some (sym e), q.1, omega arith)
   lex_before (k ∷ o) r i j (inr m) (inl d) h = absurd (lex_irrefl key i (lex_trans key i j i h (rw (← d) at (r.0 i m))))
   lex_before (k ∷ o) r i j (inr m) (inr m') h = let q = lex_before o r.1 i j m m' h in (suc q.0, suc q.1, q.2, q.3, omega (arith, q.4))
 
-  pub before_lex : (o : List ℕ) → Rising key o → (i j p q : ℕ) → get_elem? o p ≡ some i → get_elem? o q ≡ some j → p < q → Lex key i j
+  pub before_lex : (o : List ℕ) → Rising key o → (i j p q : ℕ) → slice_get o p ≡ Some i → slice_get o q ≡ Some j → p < q → Lex key i j
   before_lex [] r i j p q a b h = let z : ◌≡◌ {A = ℕ} 0 1 = cc in absurd (omega arith)
   before_lex (k ∷ o) r i j p zero a b h = absurd (omega arith)
-  before_lex (k ∷ o) r i j zero (suc q) a b h = let e : k ≡ i = cc in rw e at (r.0 j (in_member o j q b))
+  before_lex (k ∷ o) r i j zero (suc q) a b h = let e : k ≡ i = cc in rw e at (r.0 j (placed_member o j q b))
   before_lex (k ∷ o) r i j (suc p) (suc q) a b h = before_lex o r.1 i j p q a b (omega arith)
 
-  pub rising_once : (o : List ℕ) → Rising key o → (p q i : ℕ) → get_elem? o p ≡ some i → get_elem? o q ≡ some i → p ≡ q
+  pub rising_once : (o : List ℕ) → Rising key o → (p q i : ℕ) → slice_get o p ≡ Some i → slice_get o q ≡ Some i → p ≡ q
   rising_once o r p q i a b = go (cases_order p q)
     where
       go : Compared p q → p ≡ q

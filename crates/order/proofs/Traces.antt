@@ -1,7 +1,8 @@
 -- A trace that grows by one event at its end, and how many of its first events pass a test.
 use Rattle.std.proofs.Common.{◌≡◌, ℕ, zero, suc, ◌+◌, ◌<◌, ◌≤◌, Bool, true, false, ◌&&◌, eqb, ◌⊎◌, [], ◌∷◌, ◌++◌, length, Some, None, Option, sym, refl, ap, ◌∙◌, inl, inr, arith}
 use Rattle.std.proofs.lemmas.Bool.{and_right}
-use Rattle.order.specs.Common.{Call, Outcome, Event, Trace, At, shim_of, passes, count, one_if}
+use Rattle.order.specs.Common.{Call, Outcome, Event, Trace, At, shim_of, passes, count}
+use Rattle.order.proofs.Lists.{one_if}
 
 abbrev pub event : Call → Outcome → Event
 event c a = record { call = c; outcome = Some a }
@@ -70,9 +71,16 @@ count_tally f s t zero = refl
 count_tally f s [] (suc k) = refl
 count_tally f s (e ∷ t) (suc k) = go e.outcome refl (count_tally f s t k)
   where
-    go : (r : Option Outcome) → e.outcome ≡ r → count f s t k ≡ tally (of_shim f s) t k → count f s (e ∷ t) (suc k) ≡ tally (of_shim f s) (e ∷ t) (suc k)
-    go (Some r) q h = rw (q, h)
-    go None q h = rw (q, h, and_right (eqb (shim_of e.call) s) false refl)
+    Both : Type 0
+    Both = count f s (e ∷ t) (suc k) ≡ tally (of_shim f s) (e ∷ t) (suc k)
+
+    counted : (b : Bool) → (eqb (shim_of e.call) s && passes f e) ≡ b → passes (of_shim f s) e ≡ b → count f s t k ≡ tally (of_shim f s) t k → Both
+    counted true p q h = rw (p, q) (omega (arith, h))
+    counted false p q h = rw (p, q) (omega (arith, h))
+
+    go : (r : Option Outcome) → e.outcome ≡ r → count f s t k ≡ tally (of_shim f s) t k → Both
+    go None q h = counted false (rw q (and_right (eqb (shim_of e.call) s) false refl)) (rw q refl) h
+    go (Some r) q h = counted (eqb (shim_of e.call) s && f e.call r) (rw q refl) (rw q refl) h
 
 pub tally_old : (f : Call → Outcome → Bool) (t r : Trace) (k : ℕ) → k ≤ length t → tally f (t ++ r) k ≡ tally f t k
 tally_old f t r zero h = refl
