@@ -53,8 +53,8 @@ fn deliver_kind(
 ) -> Option<Delivery>
     ensures { result ≡ delivered_kind wait here msg kind }
 {
-    match kind {
-        Kind::Write if msg.stamp > 0 => Some(Delivery {
+    match (wait, kind) {
+        (_, Kind::Write) if msg.stamp > 0 => Some(Delivery {
             wait,
             line: match here {
                 Some(held) if held.settled => Some(updated(held, msg)?),
@@ -62,7 +62,7 @@ fn deliver_kind(
             },
             answer: Answer::Handled(kind),
         }),
-        Kind::ReadResponse if wait == Some(Wait::Load(msg.line)) => Some(Delivery {
+        (Some(Wait::Load(line)), Kind::ReadResponse) if line == msg.line => Some(Delivery {
             wait: None,
             line: Some(Held {
                 settled: true,
@@ -71,17 +71,17 @@ fn deliver_kind(
             }),
             answer: Answer::Value(msg.value),
         }),
-        Kind::FenceRequest => Some(Delivery {
+        (_, Kind::FenceRequest) => Some(Delivery {
             wait,
             line: here,
             answer: Answer::Handled(kind),
         }),
-        Kind::FenceResponse if wait == Some(Wait::Fence) && msg.line == 0 => Some(Delivery {
+        (Some(Wait::Fence), Kind::FenceResponse) if msg.line == 0 => Some(Delivery {
             wait: None,
             line: here,
             answer: Answer::Ended,
         }),
-        Kind::WriteAck if is_sc(msg.mark) && wait == Some(Wait::Store(msg.line)) => Some(
+        (Some(Wait::Store(line)), Kind::WriteAck) if is_sc(msg.mark) && line == msg.line => Some(
             Delivery {
                 wait: None,
                 line: if asks_sync(msg.mark) {
@@ -92,7 +92,7 @@ fn deliver_kind(
                 answer: Answer::Ended,
             },
         ),
-        Kind::WriteAck if asks_sync(msg.mark) && !is_sc(msg.mark) => Some(Delivery {
+        (_, Kind::WriteAck) if asks_sync(msg.mark) && !is_sc(msg.mark) => Some(Delivery {
             wait,
             line: Some(acknowledged(here, msg)?),
             answer: Answer::Handled(kind),
