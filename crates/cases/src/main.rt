@@ -4,11 +4,14 @@
 ghost use Rattle.std.specs.Prelude.{◌≡◌, [], ◌∷◌};
 ghost use Rattle.cases.specs.Cases.{Cases};
 
+use crate::bytes::Bytes;
+use crate::carried::carried_frame;
 use fabric::{FRAME_LEN, encode};
 use rules::{Outcome, Strength, store_request};
-use shown::{Bytes, carried_frame};
 use std::io;
 
+mod bytes;
+mod carried;
 mod limits;
 
 // The frame of a store of 7 with release strength, on a line that its shim, number 0, does not hold: the first of the cases
@@ -42,4 +45,31 @@ fn main(rt: HostRuntime) -> io::Result<()> {
         "a store put on the lane by hand, with the hub's stamp at the limit",
         by_hand,
     )
+}
+
+#[cfg(test)]
+mod tests {
+    use super::*;
+    use fabric::Fabric;
+    use frames::Frames;
+    use std::test::Fail;
+
+    // Two frames for one shim: lane 1 is the second, and its only slot is used again after a take.
+    #[test]
+    fn one_slot_a_lane(rt: HostRuntime) -> Result<(), Fail> {
+        let mut bytes = [0; 2 * FRAME_LEN];
+        let mut frames = Frames::new(&mut bytes, 1);
+        frames.put(1, store_request(0, 0, Strength::Relaxed, true, 5))?;
+        assert!(rt;
+            frames
+                .put(1, store_request(0, 0, Strength::Relaxed, true, 6))
+                .is_err()
+        );
+        frames.take(1)?;
+        frames.put(1, store_request(0, 3, Strength::Relaxed, true, 6))?;
+        assert_eq!(rt; bytes[0], 0);
+        assert_eq!(rt; bytes[FRAME_LEN + 1], 3);
+        assert_eq!(rt; bytes[FRAME_LEN + 7], 6);
+        Ok(())
+    }
 }

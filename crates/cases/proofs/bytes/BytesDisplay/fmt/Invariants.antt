@@ -1,7 +1,7 @@
 use Rattle.std.proofs.Common.{take}
 use Rattle.std.specs.Fmt.{HasWritten, IsPlainFormatter}
-use Rattle.shown.specs.Bytes.{bytes_text}
-use Rattle.shown.proofs.bytes.BytesDisplay.fmt.Given as goal
+use Rattle.cases.specs.Bytes.{bytes_text}
+use Rattle.cases.proofs.bytes.BytesDisplay.fmt.Given as goal
 
 -- the bytes so far are written
 abbrev pub invariant-loop-b : goal.invariant-loop-b

@@ -1,12 +1,12 @@
 ghost use Rattle.std.specs.Prelude.{Some};
 ghost use Rattle.std.specs.Fmt.{WritesOnOk};
-ghost use Rattle.shown.specs.Bytes.{byte_text, bytes_text};
+ghost use Rattle.cases.specs.Bytes.{byte_text, bytes_text};
 
 use std::fmt;
 
 // Bytes as they are printed: each as a space and two hexadecimal digits.
 #[derive(Clone, Copy)]
-pub struct Bytes<'a>(pub &'a [u8]);
+pub(crate) struct Bytes<'a>(pub(crate) &'a [u8]);
 
 impl<'a> fmt::Display for Bytes<'a> {
     ghost output = { λ b. Some (bytes_text b.0.now) };

@@ -1,8 +1,8 @@
 use Rattle.std.proofs.Common.{rules, [], take, sym, ap, ◌∙◌}
 use Rattle.std.proofs.Output.{has_written_append, has_written_of_eq}
 use Rattle.std.proofs.lemmas.List.{flat_map_more, take_more}
-use Rattle.shown.specs.Bytes.{byte_text, bytes_text}
-use Rattle.shown.proofs.bytes.BytesDisplay.fmt.Goals as goal
+use Rattle.cases.specs.Bytes.{byte_text, bytes_text}
+use Rattle.cases.proofs.bytes.BytesDisplay.fmt.Goals as goal
 
 pub loop-b-preserved : goal.loop-b-preserved
 loop-b-preserved g c = λ p.
