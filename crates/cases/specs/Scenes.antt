@@ -1,16 +1,18 @@
 -- Boards and lanes for the cases: line 0 of a small board, with one message under way.
-use Rattle.std.specs.Prelude.{ℕ, ◌*◌, true, false, Option, replicate, slice_set}
+use Rattle.std.specs.Prelude.{ℕ, ◌*◌, true, Option, slice_set}
 use Rattle.fabric.specs.Backing.{Model, no_backing, put_on}
 use Rattle.fabric.specs.Lanes.{empty_lanes}
 use Rattle.fabric.specs.declared.message.Message.{Message}
 use Rattle.ring.specs.Ring.{ring_capacity}
 use Rattle.rules.specs.Down.{down_rule}
 use Rattle.rules.specs.Kinds.{kind_number}
-use Rattle.rules.specs.State.{line_at, down_lane, with_line, with_hub, fresh_state}
+use Rattle.rules.specs.Strengths.{mark_of}
+use Rattle.rules.specs.State.{line_at, down_lane, with_line, with_hub, fresh_hub_line, fresh_state}
 use Rattle.rules.specs.declared.kind.Kind.TheVariants.{Write, WriteAck}
 use Rattle.rules.specs.declared.state.Held.{Held}
 use Rattle.rules.specs.declared.state.Size.{Size}
 use Rattle.rules.specs.declared.state.State.{State}
+use Rattle.rules.specs.declared.strength.Strength.TheVariants.{Relaxed}
 
 -- n shims and one line
 abbrev pub small : ℕ → Size
@@ -25,7 +27,7 @@ abbrev pub update : ℕ → Message
 update t = record { kind = kind_number Write; line = 0; mark = 0; sender = 1; value = 20; stamp = t }
 
 abbrev pub acknowledgement : ℕ → Message
-acknowledgement t = record { kind = kind_number WriteAck; line = 0; mark = 16; sender = 0; value = 0; stamp = t }
+acknowledgement t = record { kind = kind_number WriteAck; line = 0; mark = mark_of Relaxed true; sender = 0; value = 0; stamp = t }
 
 -- line 0 of shim 0, of two, after a down that hands it the message
 abbrev pub line_after : Option Held → Message → Option Held
@@ -33,4 +35,4 @@ line_after l m = line_at (down_rule no_backing (small 2) (with_line fresh_state 
 
 -- a board of three shims on which shims 1 and 2 share line 0
 abbrev pub shared_line : State
-shared_line = with_hub fresh_state 0 (record { word = 0; stamp = 0; sharers = slice_set (slice_set (replicate 8 false) 1 true) 2 true })
+shared_line = with_hub fresh_state 0 (record fresh_hub_line { sharers = slice_set (slice_set fresh_hub_line.sharers 1 true) 2 true })

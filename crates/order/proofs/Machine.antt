@@ -87,15 +87,11 @@ wait_after (Drop x) = Ready
 -- to the hub's word and stamp of a line, and to whether a shim shares it (first: whether that shim is the sender)
 abbrev pub word_after : Act → ℕ → ℕ
 word_after (Writes k w) v = w
-word_after Reads v = v
-word_after Drops v = v
-word_after Nothing v = v
+word_after a v = v
 
 abbrev pub stamp_after : Act → ℕ → ℕ
 stamp_after (Writes k w) t = suc t
-stamp_after Reads t = t
-stamp_after Drops t = t
-stamp_after Nothing t = t
+stamp_after a t = t
 
 abbrev pub shares_after : Bool → Act → Bool → Bool
 shares_after true (Writes k w) b = k || b

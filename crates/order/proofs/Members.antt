@@ -32,12 +32,8 @@ stands c r h = false
 
 -- only a store sends a write
 request_store : (c : Call) (k : Bool) (x g : ℕ) (k' : Bool) (w : ℕ) → request_of c k ≡ Write x g k' w → c ≡ Store (shim_of c) x g w
-request_store (Load s y h) k x g k' w e = let z : ◌≡◌ {A = ℕ} 0 1 = cc in absurd (omega arith)
 request_store (Store s y h v) k x g k' w e = let p : y ≡ x = cc in let q : h ≡ g = cc in let r : v ≡ w = cc in rw (p, q, r)
-request_store (Fence s h) k x g k' w e = let z : ◌≡◌ {A = ℕ} 0 1 = cc in absurd (omega arith)
-request_store (Evict s y) k x g k' w e = let z : ◌≡◌ {A = ℕ} 0 1 = cc in absurd (omega arith)
-request_store (Up s) k x g k' w e = let z : ◌≡◌ {A = ℕ} 0 1 = cc in absurd (omega arith)
-request_store (Down s) k x g k' w e = let z : ◌≡◌ {A = ℕ} 0 1 = cc in absurd (omega arith)
+request_store c k x g k' w e = let z : ◌≡◌ {A = ℕ} 0 1 = cc in absurd (omega arith)
 
 at_some : (t : Trace) (p : ℕ) → p < length t → (e : Event) × (slice_get t p ≡ Some e)
 at_some [] p l = absurd (omega arith)

@@ -44,18 +44,13 @@ From t (Unsettled c u) = Unit {0}
 From t (Settled c u) = t ≤ u
 
 from_own : (a : Act) (l : Line) (t : ℕ) → From t l → From t (line_after a l)
-from_own (Writes true w) NotHeld t h = tt
-from_own (Writes false w) NotHeld t h = tt
-from_own (Writes k w) (Unsettled c u) t h = tt
 from_own (Writes k w) (Settled c u) t h = omega arith
-from_own Reads l t h = h
+from_own (Writes true w) l t h = tt
+from_own (Writes false w) l t h = tt
 from_own Drops l t h = tt
-from_own Nothing l t h = h
+from_own a l t h = h
 
 updated_own : (a : Act) (l : Line) (v t : ℕ) → From t l → updated v (suc t) (line_after a l) ≡ line_after a (updated v (suc t) l)
-updated_own (Writes true w) NotHeld v t h = refl
-updated_own (Writes false w) NotHeld v t h = refl
-updated_own (Writes k w) (Unsettled c u) v t h = refl
 updated_own (Writes k w) (Settled c u) v t h = go (ltb u (suc t)) refl
   where
     go : (b : Bool) → ltb u (suc t) ≡ b
@@ -64,11 +59,11 @@ updated_own (Writes k w) (Settled c u) v t h = go (ltb u (suc t)) refl
         let r : u ≡ t = omega (arith, ltb-true u (suc t) q) in
         rw (q, le-ltb (suc u) (suc t) (omega arith)) (ap (λ (n : ℕ). Settled w (suc (suc n))) r)
     go false q = rw (q, le-ltb (suc u) (suc t) (omega (arith, ltb-false u (suc t) q)))
-updated_own Reads l v t h = refl
+updated_own (Writes true w) l v t h = refl
+updated_own (Writes false w) l v t h = refl
 updated_own Drops NotHeld v t h = refl
 updated_own Drops (Unsettled c u) v t h = refl
-updated_own Drops (Settled c u) v t h = refl
-updated_own Nothing l v t h = refl
+updated_own a l v t h = refl
 
 pub updated_replay : (ds : List Act) (l : Line) (v t : ℕ) → From t l → updated v (suc t) (replay ds l) ≡ replay ds (updated v (suc t) l)
 updated_replay [] l v t h = refl
@@ -113,9 +108,7 @@ Replays ds l l' = (l ≡ replay ds l') × Allowed ds l'
 
 abbrev pub is_ready : Wait → Bool
 is_ready Ready = true
-is_ready (ForLoad x) = false
-is_ready (ForStore x) = false
-is_ready ForFence = false
+is_ready w = false
 
 -- a request after which the shim waits
 abbrev pub Awaited : Request → Type 0

@@ -83,9 +83,7 @@ other_waits (Write y g k w) wd st sh v = go (sh y)
     go : (b : Bool) → heard_waits (cond b (Update y w (suc (st y)) ∷ []) []) v ≡ v
     go true = refl
     go false = refl
-other_waits (Read y g) wd st sh v = refl
-other_waits Sync wd st sh v = refl
-other_waits (Drop y) wd st sh v = refl
+other_waits o wd st sh v = refl
 
 own_event_holds : (s : ℕ) (e : Entry) (p es : List Entry) (v : Wait) (ln : ℕ → Line) → eqb e.who s ≡ true → Holds s p (e ∷ es) v ln
     → Holds s (e ∷ p) es (heard_waits (told s e p) v) (λ x. heard_lines x (told s e p) (ln x))
@@ -140,11 +138,8 @@ notices_at_most_one : (b : Bool) (o : Request) (wd st : ℕ → ℕ) (sh : ℕ �
 notices_at_most_one true (Write y g k w) wd st sh = at_most_one_if (k || sc g) (Ack y (sc g) k (st y))
 notices_at_most_one false (Write y g k w) wd st sh = at_most_one_if (sh y) (Update y w (suc (st y)))
 notices_at_most_one true (Read y g) wd st sh = tt
-notices_at_most_one false (Read y g) wd st sh = tt
 notices_at_most_one true Sync wd st sh = tt
-notices_at_most_one false Sync wd st sh = tt
-notices_at_most_one true (Drop y) wd st sh = tt
-notices_at_most_one false (Drop y) wd st sh = tt
+notices_at_most_one b o wd st sh = tt
 
 -- what the message that answers a load or a fence says, where the call was performed after r
 abbrev pub tells : Request → List Entry → Notice → Type 0
