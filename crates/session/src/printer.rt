@@ -1,4 +1,4 @@
-ghost use Rattle.std.specs.Prelude.{◌≡◌, [], ◌∷◌, ◌++◌, IfOk, OnOk};
+ghost use Rattle.std.specs.Prelude.{◌≡◌, [], ◌∷◌, ◌++◌, if◌then◌else◌, is_ok, IfOk, OnOk};
 ghost use Rattle.words.specs.Lengths.{line_feed};
 ghost use Rattle.session.specs.Agreement.{Agrees};
 ghost use Rattle.session.specs.Items.{item_bytes};
@@ -11,27 +11,28 @@ use crate::session::Session;
 use std::alloc::{AllocError, Global};
 use verdict::put_verdict;
 
-// Writes a line.
-fn write_line(out: &mut Vec<u8>, text: &[u8]) -> Result<(), AllocError>
-    ensures { OnOk result (out.new.items ≡ out.old.items ++ (text.now ++ (line_feed ∷ []))) }
+// Writes a note as a line: whole, or nothing of it. Where there is room for both parts, neither is refused.
+fn write_note(out: &mut Vec<u8>, text: &[u8]) -> Result<(), AllocError>
+    ensures { out.new.items ≡ (if is_ok result then out.old.items ++ (text.now ++ (line_feed ∷ [])) else out.old.items) }
 {
+    out.reserve(text.len() + 1)?;
     out.extend_from_slice(text)?;
     out.extend_from_slice(b"\n")
 }
 
-// Writes a thing that a sheet prints.
+// Writes a thing that a sheet prints: whole, or nothing of it.
 pub fn write(heap: Global, out: &mut Vec<u8>, printed: Printed) -> Result<(), AllocError>
-    ensures { OnOk result (out.new.items ≡ out.old.items ++ item_bytes (item_of printed.entry)) }
+    ensures { out.new.items ≡ (if is_ok result then out.old.items ++ item_bytes (item_of printed.entry) else out.old.items) }
 {
     match printed {
         Printed::Answered { step, outcome } => {
-            let text = match outcome {
-                Ok(answer) => format!(in heap; "{step} {answer}")?,
-                Err(refusal) => format!(in heap; "{step} no {refusal}")?,
+            let line = match outcome {
+                Ok(answer) => format!(in heap; "{step} {answer}\n")?,
+                Err(refusal) => format!(in heap; "{step} no {refusal}\n")?,
             };
-            write_line(out, text.as_bytes())
+            out.extend_from_slice(line.as_bytes())
         }
-        Printed::Note(text) => write_line(out, text),
+        Printed::Note(text) => write_note(out, text),
         Printed::Flawed(flaw) => put_verdict(heap, out, Err(flaw)),
     }
 }

@@ -1,4 +1,4 @@
-ghost use Rattle.std.specs.Prelude.{◌≡◌, ◌++◌, IfOk, Some, OnOk};
+ghost use Rattle.std.specs.Prelude.{◌≡◌, ◌++◌, if◌then◌else◌, is_ok, IfOk, Some};
 ghost use Rattle.verdict.specs.Verdicts.{flaw_bytes, verdict_bytes, verdict_of};
 
 use crate::checker::check;
@@ -21,9 +21,9 @@ impl fmt::Display for Flaw {
     }
 }
 
-// Writes a verdict as a line.
+// Writes a verdict as a line: whole, or nothing of it.
 pub fn put_verdict(heap: Global, out: &mut Vec<u8>, verdict: Verdict) -> Result<(), AllocError>
-    ensures { OnOk result (out.new.items ≡ out.old.items ++ verdict_bytes verdict) }
+    ensures { out.new.items ≡ (if is_ok result then out.old.items ++ verdict_bytes verdict else out.old.items) }
 {
     let line = match verdict {
         Ok(calls) => format!(in heap; "ok {calls}\n")?,
