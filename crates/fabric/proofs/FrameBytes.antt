@@ -17,10 +17,6 @@ bytes_of_number (suc w) bs h small =
 
 -- the frame of a frame's message is that frame
 pub frame_back : (frame : List ℕ) → length frame ≡ frame_bytes → ((i : ℕ) → get_or frame i 0 < 256) → frame_of (message_of frame) ≡ frame
-frame_back [] e small = absurd (omega arith)
-frame_back (a ∷ []) e small = absurd (omega arith)
-frame_back (a ∷ b ∷ []) e small = absurd (omega arith)
-frame_back (a ∷ b ∷ c ∷ []) e small = absurd (omega arith)
 frame_back (a ∷ b ∷ c ∷ d ∷ rest) e small =
     let long : length rest ≡ word_bytes + stamp_bytes = omega arith in
     let tail_long : length (drop word_bytes rest) ≡ stamp_bytes = omega (arith, length-drop word_bytes rest) in
@@ -30,3 +26,4 @@ frame_back (a ∷ b ∷ c ∷ d ∷ rest) e small =
     bytes_of_number stamp_bytes (drop word_bytes rest) (omega arith) (λ i. subst (λ n. n < 256) (sym (get_or-drop word_bytes rest i 0)) (each (word_bytes + i))) in
     let end : take stamp_bytes (drop word_bytes rest) ≡ drop word_bytes rest = take_all stamp_bytes (drop word_bytes rest) (omega arith) in
     ap (λ l. a ∷ b ∷ c ∷ d ∷ l) ((λ i. word i ++ (stamp ∙ end) i) ∙ take-append-drop word_bytes rest)
+frame_back frame e small = absurd (omega arith)

@@ -6,7 +6,7 @@ use Rattle.fabric.specs.declared.message.Message.{Message}
 use Rattle.rules.specs.declared.answer.Answer.{Answer}
 use Rattle.rules.specs.declared.answer.Answer.TheVariants.{Value, Ended, Handled}
 use Rattle.rules.specs.declared.kind.Kind.{Kind}
-use Rattle.rules.specs.declared.kind.Kind.TheVariants.{Write, ReadRequest, ReadResponse, FenceRequest, FenceResponse, WriteAck, Drop}
+use Rattle.rules.specs.declared.kind.Kind.TheVariants.{Write, ReadResponse, FenceRequest, FenceResponse, WriteAck}
 use Rattle.rules.specs.declared.state.Held.{Held}
 use Rattle.rules.specs.declared.state.Size.{Size}
 use Rattle.rules.specs.declared.state.State.{State}
@@ -20,22 +20,16 @@ use Rattle.rules.specs.Strengths.{is_sc, asks_sync}
 
 -- does the shim wait for a load of line x; for a store to line x; for a fence, which has line 0
 abbrev pub awaits_load : Option Wait → ℕ → Bool
-awaits_load None x = false
 awaits_load (Some (wait.Load y)) x = y == x
-awaits_load (Some (wait.Store y)) x = false
-awaits_load (Some wait.Fence) x = false
+awaits_load w x = false
 
 abbrev pub awaits_store : Option Wait → ℕ → Bool
-awaits_store None x = false
-awaits_store (Some (wait.Load y)) x = false
 awaits_store (Some (wait.Store y)) x = y == x
-awaits_store (Some wait.Fence) x = false
+awaits_store w x = false
 
 abbrev pub awaits_fence : Option Wait → ℕ → Bool
-awaits_fence None x = false
-awaits_fence (Some (wait.Load y)) x = false
-awaits_fence (Some (wait.Store y)) x = false
 awaits_fence (Some wait.Fence) x = x == 0
+awaits_fence w x = false
 
 -- WHAT BECOMES OF THE SHIM'S LINE
 
@@ -52,36 +46,28 @@ line_updated (Some h) m = cond h.settled (held_updated h m) (Some h)
 abbrev pub line_acknowledged : Option Held → Message → Option Held
 line_acknowledged l m = cond (asks_sync m.mark) (settled_at (copy_of l) (stamp_of l + m.stamp)) l
 
+-- a message of any other kind leaves the line
 abbrev pub line_by : Option Held → Message → Kind → Option Held
 line_by l m Write = line_updated l m
-line_by l m ReadRequest = l
 line_by l m ReadResponse = settled_at m.value m.stamp
-line_by l m FenceRequest = l
-line_by l m FenceResponse = l
 line_by l m WriteAck = line_acknowledged l m
-line_by l m Drop = l
+line_by l m k = l
 
 -- WHAT ENDS
 
 -- does a message of this kind end what the shim waits for
 abbrev pub ends : Message → Kind → Bool
-ends m Write = false
-ends m ReadRequest = false
 ends m ReadResponse = true
-ends m FenceRequest = false
 ends m FenceResponse = true
 ends m WriteAck = is_sc m.mark
-ends m Drop = false
+ends m k = false
 
 -- a load that ends answers its word, a store or a fence that it ended; what ends nothing answers its kind
 abbrev pub answer_by : Message → Kind → Answer
-answer_by m Write = Handled Write
-answer_by m ReadRequest = Handled ReadRequest
 answer_by m ReadResponse = Value m.value
-answer_by m FenceRequest = Handled FenceRequest
 answer_by m FenceResponse = Ended
 answer_by m WriteAck = cond (is_sc m.mark) Ended (Handled WriteAck)
-answer_by m Drop = Handled Drop
+answer_by m k = Handled k
 
 -- WHAT IS FOREIGN
 
@@ -100,14 +86,14 @@ foreign_ack w l m =
     || (asks_sync m.mark && (not (is_unsettled l) || over_limit (stamp_of l + m.stamp))
     || is_sc m.mark && not (awaits_store w m.line))
 
+-- a kind that does not come down is foreign
 abbrev pub foreign_kind : Option Wait → Option Held → Message → Kind → Bool
 foreign_kind w l m Write = foreign_update l m
-foreign_kind w l m ReadRequest = true
 foreign_kind w l m ReadResponse = not (awaits_load w m.line)
 foreign_kind w l m FenceRequest = false
 foreign_kind w l m FenceResponse = not (awaits_fence w m.line)
 foreign_kind w l m WriteAck = foreign_ack w l m
-foreign_kind w l m Drop = true
+foreign_kind w l m k = true
 
 -- is m foreign to a shim that waits for w and has l at the line of m
 abbrev pub foreign_to : Option Wait → Option Held → Message → Bool

@@ -21,21 +21,12 @@ refusal_number (Fabric (Full lane)) = 10
 refusal_number (Fabric (Empty lane)) = 11
 refusal_number (Foreign lane) = 12
 
--- what a refusal carries: the fabric's own number and the lane, or the lane
+-- what a refusal carries: the fabric's own number and the lane, or the lane, or nothing
 abbrev pub refusal_carries : Refusal → List ℕ
-refusal_carries WrongSize = []
-refusal_carries MessageWaits = []
-refusal_carries NoShim = []
-refusal_carries NoLine = []
-refusal_carries WrongStrength = []
-refusal_carries ShimWaits = []
-refusal_carries NotHeld = []
-refusal_carries Unsettled = []
-refusal_carries AtLimit = []
-refusal_carries (Fabric (NoLane lane)) = []
 refusal_carries (Fabric (Full lane)) = fault_number (Full lane) ∷ lane ∷ []
 refusal_carries (Fabric (Empty lane)) = fault_number (Empty lane) ∷ lane ∷ []
 refusal_carries (Foreign lane) = lane ∷ []
+refusal_carries e = []
 
 -- a test of a call, and the refusal where the call fails it
 pub record Check : Type 0 where

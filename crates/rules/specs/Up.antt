@@ -41,15 +41,14 @@ fenced_message k m = record { kind = kind_number k; line = 0; mark = mark_of Seq
 abbrev pub sent_if : Bool → Message → Option Message
 sent_if t m = cond t (Some m) None
 
--- what shim j is sent when the hub, with h at the line of m, performs m, a message of this kind
+-- what shim j is sent when the hub, with h at the line of m, performs m, a message of this kind;
+-- a kind that does not go up is foreign, whatever stands here and below for it
 abbrev pub sent_by : HubLine → Message → ℕ → Kind → Option Message
 sent_by h m j Write = cond (m.sender == j) (sent_if (owes_ack m.mark) (ack_message h m)) (sent_if (shares h j) (update_message h m))
 sent_by h m j ReadRequest = sent_if (m.sender == j) (read_message h m)
-sent_by h m j ReadResponse = None
 sent_by h m j FenceRequest = Some (fenced_message (cond (m.sender == j) FenceResponse FenceRequest) m)
-sent_by h m j FenceResponse = None
-sent_by h m j WriteAck = None
 sent_by h m j Drop = None
+sent_by h m j k = None
 
 abbrev pub sent_to : State → Message → ℕ → Option Message
 sent_to b m j = sent_by (hub_at b m.line) m j (kind_at m)
@@ -69,24 +68,19 @@ send_all ω sent φ (suc j) = send_one ω (send_all ω sent φ j) j (sent j)
 abbrev pub hub_by : HubLine → Message → Kind → HubLine
 hub_by h m Write = record { word = m.value; stamp = h.stamp + 1; sharers = cond (asks_sync m.mark) (slice_set h.sharers m.sender true) h.sharers }
 hub_by h m ReadRequest = record { word = h.word; stamp = h.stamp; sharers = slice_set h.sharers m.sender true }
-hub_by h m ReadResponse = h
 hub_by h m FenceRequest = h
-hub_by h m FenceResponse = h
-hub_by h m WriteAck = h
 hub_by h m Drop = record { word = h.word; stamp = h.stamp; sharers = slice_set h.sharers m.sender false }
+hub_by h m k = h
 
 -- THE RULE
 
 -- the kinds that go up; a store is no more performed once the hub's stamp is at the limit
 abbrev pub goes_up : HubLine → Option Kind → Bool
-goes_up h None = false
 goes_up h (Some Write) = not (nat_le stamp_limit h.stamp)
 goes_up h (Some ReadRequest) = true
-goes_up h (Some ReadResponse) = false
 goes_up h (Some FenceRequest) = true
-goes_up h (Some FenceResponse) = false
-goes_up h (Some WriteAck) = false
 goes_up h (Some Drop) = true
+goes_up h k = false
 
 -- is m, on the up lane of shim s, a message that the hub does not perform
 abbrev pub foreign_up : Size → State → ℕ → Message → Bool

@@ -64,24 +64,20 @@ module _ (w : Option rules.Wait) (l : Option Held) (m : Message) where
 
   heard : (k : Kind) → foreign_kind w l m k ≡ false → Heard w l m k
   heard kind.Write f = record { wait = refl; line = updated_line m l; answer = refl }
-  heard kind.ReadRequest f = absurd (false≢true (sym f))
   heard kind.ReadResponse f = record { wait = refl; line = rw (eq-eqb m.line m.line refl); answer = refl }
   heard kind.FenceRequest f = record { wait = refl; line = refl; answer = refl }
   heard kind.FenceResponse f = record { wait = refl; line = refl; answer = refl }
   heard kind.WriteAck f =
       let sync = (or_parts (asks_sync m.mark && (not (is_unsettled l) || over_limit (stamp_of l + m.stamp))) (is_sc m.mark && not (awaits_store w m.line)) (or_parts _ _ f).1).0 in
       record { wait = ready_if (is_sc m.mark); line = acknowledged_line m l (asks_sync m.mark) refl sync; answer = refl }
-  heard kind.Drop f = absurd (false≢true (sym f))
+  heard k f = absurd (false≢true (sym f))
 
 -- it does nothing to the other lines
 heard_elsewhere : (m : Message) (k : Kind) (x : ℕ) (l : Line) → x ≢ m.line → l ≡ heard_line x (notice_by m k) l
 heard_elsewhere m kind.Write x l ne = rw (ne_eqb x m.line ne)
-heard_elsewhere m kind.ReadRequest x l ne = refl
 heard_elsewhere m kind.ReadResponse x l ne = rw (ne_eqb x m.line ne)
-heard_elsewhere m kind.FenceRequest x l ne = refl
-heard_elsewhere m kind.FenceResponse x l ne = refl
 heard_elsewhere m kind.WriteAck x l ne = rw (ne_eqb x m.line ne)
-heard_elsewhere m kind.Drop x l ne = refl
+heard_elsewhere m k x l ne = refl
 
 module _ {ω : Backing} (z : Size) (b : State) (φ : Model ω) (s : ℕ) (fits : Fits z b) (m : Message) where
   abbrev w₀ : Option rules.Wait

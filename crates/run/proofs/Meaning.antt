@@ -42,11 +42,9 @@ copy_is (Some h) e = go h.settled
 abbrev pub request_by : Message → Kind → Request
 request_by m kind.Write = Write m.line (mark_strength m.mark) (asks_sync m.mark) m.value
 request_by m kind.ReadRequest = Read m.line m.mark
-request_by m kind.ReadResponse = Sync
 request_by m kind.FenceRequest = Sync
-request_by m kind.FenceResponse = Sync
-request_by m kind.WriteAck = Sync
 request_by m kind.Drop = Drop m.line
+request_by m k = Sync
 
 abbrev pub request_of : Message → Request
 request_of m = request_by m (kind_at m)
@@ -54,12 +52,11 @@ request_of m = request_by m (kind_at m)
 -- a message on a down lane, in the same way
 abbrev pub notice_by : Message → Kind → Notice
 notice_by m kind.Write = Update m.line m.value m.stamp
-notice_by m kind.ReadRequest = OtherFence
 notice_by m kind.ReadResponse = Reply m.line m.value m.stamp
 notice_by m kind.FenceRequest = OtherFence
 notice_by m kind.FenceResponse = OwnFence
 notice_by m kind.WriteAck = Ack m.line (is_sc m.mark) (asks_sync m.mark) m.stamp
-notice_by m kind.Drop = OtherFence
+notice_by m k = OtherFence
 
 abbrev pub notice_of : Message → Notice
 notice_of m = notice_by m (kind_at m)

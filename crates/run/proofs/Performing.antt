@@ -29,30 +29,21 @@ use Rattle.run.proofs.Notices.{list_of, sent_all, agrees}
 abbrev own_act : Message → Kind → Act
 own_act m kind.Write = Writes (asks_sync m.mark) m.value
 own_act m kind.ReadRequest = Reads
-own_act m kind.ReadResponse = Nothing
-own_act m kind.FenceRequest = Nothing
-own_act m kind.FenceResponse = Nothing
-own_act m kind.WriteAck = Nothing
 own_act m kind.Drop = Drops
+own_act m k = Nothing
 
 act_here : (m : Message) (k : Kind) → act m.line (request_by m k) ≡ own_act m k
 act_here m kind.Write = rw (eq-eqb m.line m.line refl)
 act_here m kind.ReadRequest = rw (eq-eqb m.line m.line refl)
-act_here m kind.ReadResponse = refl
-act_here m kind.FenceRequest = refl
-act_here m kind.FenceResponse = refl
-act_here m kind.WriteAck = refl
 act_here m kind.Drop = rw (eq-eqb m.line m.line refl)
+act_here m k = refl
 
 -- to another line it is nothing
 act_there : (m : Message) (k : Kind) (x : ℕ) → x ≢ m.line → act x (request_by m k) ≡ Nothing
 act_there m kind.Write x ne = rw (ne_eqb x m.line ne)
 act_there m kind.ReadRequest x ne = rw (ne_eqb x m.line ne)
-act_there m kind.ReadResponse x ne = refl
-act_there m kind.FenceRequest x ne = refl
-act_there m kind.FenceResponse x ne = refl
-act_there m kind.WriteAck x ne = refl
 act_there m kind.Drop x ne = rw (ne_eqb x m.line ne)
+act_there m k x ne = refl
 
 -- an act that leaves the sender's bit leaves every bit
 bit_kept : (a : Act) → ((v : Bool) → v ≡ shares_after true a v) → (own v : Bool) → v ≡ shares_after own a v
@@ -85,21 +76,15 @@ performs h m kind.Write low = record { word = refl; stamp = rw add-one; bits = b
     size true = length-set h.sharers m.sender true
     size false = refl
 performs h m kind.ReadRequest low = record { word = refl; stamp = refl; bits = bit_set Reads h.sharers m.sender true low (λ v. refl); size = length-set h.sharers m.sender true }
-performs h m kind.ReadResponse low = record { word = refl; stamp = refl; bits = λ j. nothing_kept (eqb m.sender j) (shares h j); size = refl }
-performs h m kind.FenceRequest low = record { word = refl; stamp = refl; bits = λ j. nothing_kept (eqb m.sender j) (shares h j); size = refl }
-performs h m kind.FenceResponse low = record { word = refl; stamp = refl; bits = λ j. nothing_kept (eqb m.sender j) (shares h j); size = refl }
-performs h m kind.WriteAck low = record { word = refl; stamp = refl; bits = λ j. nothing_kept (eqb m.sender j) (shares h j); size = refl }
 performs h m kind.Drop low = record { word = refl; stamp = refl; bits = bit_set Drops h.sharers m.sender false low (λ v. refl); size = length-set h.sharers m.sender false }
+performs h m k low = record { word = refl; stamp = refl; bits = λ j. nothing_kept (eqb m.sender j) (shares h j); size = refl }
 
 -- the kind that is answered is that of the request
 kind_is : (h : HubLine) (m : Message) (k : Kind) → goes_up h (Some k) ≡ true → k ≡ request_kind (request_by m k)
-kind_is h m kind.Write u = refl
-kind_is h m kind.ReadRequest u = refl
 kind_is h m kind.ReadResponse u = absurd (false≢true u)
-kind_is h m kind.FenceRequest u = refl
 kind_is h m kind.FenceResponse u = absurd (false≢true u)
 kind_is h m kind.WriteAck u = absurd (false≢true u)
-kind_is h m kind.Drop u = refl
+kind_is h m k u = refl
 
 -- a message that goes up has one of the kinds
 goes_some : (h : HubLine) (o : Option Kind) → goes_up h o ≡ true → goes_up h (Some (unwrap_or o kind.Write)) ≡ true

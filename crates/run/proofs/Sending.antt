@@ -37,9 +37,7 @@ sender z b lanes s fit shim waits = record { low = leb-false z.shims s shim; cou
   where
     ready : (w : Option rules.Wait) → not (is_ready w) ≡ false → wait_of w ≡ Ready
     ready None h = refl
-    ready (Some (wait.Load x)) h = absurd (false≢true (sym h))
-    ready (Some (wait.Store x)) h = absurd (false≢true (sym h))
-    ready (Some wait.Fence) h = absurd (false≢true (sym h))
+    ready (Some w) h = absurd (false≢true (sym h))
 
 module _ (z : Size) (b : State) (s : ℕ) (o : Request) where
   -- the shim new is what the request o makes of shim s

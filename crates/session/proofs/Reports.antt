@@ -27,10 +27,9 @@ falls s (running p) i e = ⊎_elim
     (cases_lt p.place (length s))
   where
     go : p.place < length s → (r : Result (Option Entry) Fault) → (line_told s p r).0 ≡ Some i → left_of s (line_told s p r).1 < left_of s (running p)
-    go h (Ok (Some (a_call c))) e = omega arith
-    go h (Ok (Some (format.a_note text))) e = omega arith
     go h (Ok None) e = absurd (cc)
-    go h (Err f) e = omega arith
+    go h (Ok (Some (a_call c))) e = omega arith
+    go h r e = omega arith
 falls s (flawed f) i e = omega arith
 falls s over i e = absurd (cc)
 
@@ -45,8 +44,7 @@ none_over s (running p) e = go (next_at s p.place) e
     go : (r : Result (Option Entry) Fault) → (line_told s p r).0 ≡ None → (line_told s p r).1 ≡ over
     go (Ok (Some (a_call c))) e = absurd (cc)
     go (Ok (Some (format.a_note text))) e = absurd (cc)
-    go (Ok None) e = refl
-    go (Err f) e = refl
+    go r e = refl
 none_over s (flawed f) e = absurd (cc)
 none_over s over e = refl
 

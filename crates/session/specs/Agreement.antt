@@ -2,15 +2,14 @@
 use Rattle.std.specs.Prelude.{◌≡◌, ℕ, ◌+◌, List, [], ◌∷◌, length, Some, None, Ok, Err, Option, Result}
 use Rattle.verdict.specs.Verdicts.{verdict_of}
 use Rattle.verdict.specs.declared.verdict.Flaw.{Flaw}
-use Rattle.session.specs.Items.{Item, an_answer, a_note, a_flaw}
+use Rattle.session.specs.Items.{Item, a_flaw}
 use Rattle.session.specs.Playing.{started, items_from}
 
 -- the first item that says what is wrong with a sheet
 abbrev pub complaint_in : List Item → Option Item
 complaint_in [] = None
-complaint_in (an_answer step r ∷ is) = complaint_in is
-complaint_in (a_note text ∷ is) = complaint_in is
 complaint_in (a_flaw f ∷ is) = Some (a_flaw f)
+complaint_in (i ∷ is) = complaint_in is
 
 -- what a verdict says is wrong
 abbrev pub complaint_of : Result ℕ Flaw → Option Item

@@ -1,5 +1,5 @@
 -- What a session and what it hands out mean.
-use Rattle.std.specs.Prelude.{ℕ, List, drop, Some, None, Option}
+use Rattle.std.specs.Prelude.{ℕ, List, drop, Some, Option}
 use Rattle.std.specs.Borrow.{Bor}
 use Rattle.words.specs.Lengths.{line_length}
 use Rattle.sheet.specs.Places.{Part}
@@ -35,7 +35,5 @@ item_of (Flawed f) = a_flaw f
 
 -- a note is the caller's own part of the sheet s, from place a on
 abbrev pub OwnPart : Bor (List ℕ) → ℕ → Option Printed → Type 0
-OwnPart s a None = Unit {0}
-OwnPart s a (Some (Answered step r)) = Unit {0}
 OwnPart s a (Some (Note text)) = Part s text a (line_length (drop a s.now))
-OwnPart s a (Some (Flawed f)) = Unit {0}
+OwnPart s a o = Unit {0}

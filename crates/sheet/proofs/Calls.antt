@@ -6,7 +6,7 @@ use Rattle.words.specs.declared.fault.FaultKind.TheVariants.{UnknownWord}
 use Rattle.sheet.specs.declared.line.Line.{Line}
 use Rattle.sheet.specs.declared.line.Line.TheVariants as line
 use Rattle.sheet.specs.declared.op.Op.{Op}
-use Rattle.sheet.specs.declared.op.Op.TheVariants.{Load, Store, Fence, Evict, Up, Down}
+use Rattle.sheet.specs.declared.op.Op.TheVariants.{Load}
 use Rattle.words.specs.Faults.{fault}
 use Rattle.sheet.specs.Format.{hash, a_call, op_word}
 use Rattle.sheet.specs.Moves.{MovedTo}
@@ -27,19 +27,11 @@ confirmed op w = cond (bytes_eq w (op_word op)) (Some op) None
 -- a word that begins as one call's name is that name or none
 op_of_initial : (op : Op) (bs : List ℕ) → op_of (initial op ∷ bs) ≡ confirmed op (initial op ∷ bs)
 op_of_initial Load bs = refl
-op_of_initial Store bs = refl
-op_of_initial Fence bs = refl
-op_of_initial Evict bs = refl
-op_of_initial Up bs = refl
-op_of_initial Down bs = refl
+op_of_initial op bs = refl
 
 op_of_empty : (op : Op) → op_of [] ≡ confirmed op []
 op_of_empty Load = refl
-op_of_empty Store = refl
-op_of_empty Fence = refl
-op_of_empty Evict = refl
-op_of_empty Up = refl
-op_of_empty Down = refl
+op_of_empty op = refl
 
 op_by_first : (w : List ℕ) (op : Op) → (w ≡ []) ⊎ (get_or w 0 0 ≡ initial op) → op_of w ≡ confirmed op w
 op_by_first [] op h = op_of_empty op
@@ -48,11 +40,7 @@ op_by_first (b ∷ bs) op (inr e) = let P : ℕ → Type 0 = λ x. op_of (x ∷ 
 
 initial_is_no_note : (op : Op) → eqb (initial op) hash ≡ false
 initial_is_no_note Load = refl
-initial_is_no_note Store = refl
-initial_is_no_note Fence = refl
-initial_is_no_note Evict = refl
-initial_is_no_note Up = refl
-initial_is_no_note Down = refl
+initial_is_no_note op = refl
 
 told_call : (op : Op) (r : Result (List ℕ) Fault) → told (followed_by r (λ vs. Ok (line.Call (call_of op vs)))) ≡ followed_by r (λ vs. Ok (a_call (call_of op vs)))
 told_call op (Ok vs) = refl
@@ -60,8 +48,7 @@ told_call op (Err f) = refl
 
 call_in_place : (s : Bor (List ℕ)) (a : ℕ) (op : Op) (q : Result Unit Fault) (r : Result (List ℕ) Fault) → InPlace s a (followed_by q (λ _. followed_by r (λ vs. Ok (line.Call (call_of op vs)))))
 call_in_place s a op (Ok _) (Ok vs) = tt
-call_in_place s a op (Ok _) (Err f) = tt
-call_in_place s a op (Err f) r = tt
+call_in_place s a op q r = tt
 
 module _ (s : List ℕ) (a : ℕ) (op : Op) where
   abbrev rest : Result Line Fault

@@ -21,9 +21,8 @@ told (Err f) = Err f
 
 -- a note is the caller's own part of the sheet s, from place a on
 abbrev pub InPlace : Bor (List ℕ) → ℕ → Result Line Fault → Type 0
-InPlace s a (Ok (Call c)) = Unit {0}
 InPlace s a (Ok (Note text)) = Part s text a (line_length (drop a s.now))
-InPlace s a (Err f) = Unit {0}
+InPlace s a r = Unit {0}
 
 -- r is the line of the sheet s that begins at place a; where there is one, the next begins at place next
 pub record LineAt (s : Bor (List ℕ)) (a : ℕ) (r : Result Line Fault) (next : ℕ) : Type 0 where
@@ -43,14 +42,12 @@ next_told (Ok (Some l)) = Ok (Some (entry_of l))
 next_told (Err f) = Err f
 
 abbrev pub NextInPlace : Bor (List ℕ) → ℕ → Result (Option Line) Fault → Type 0
-NextInPlace s a (Ok None) = Unit {0}
 NextInPlace s a (Ok (Some l)) = InPlace s a (Ok l)
-NextInPlace s a (Err f) = Unit {0}
+NextInPlace s a r = Unit {0}
 
 abbrev pub next_place : List ℕ → ℕ → Result (Option Line) Fault → ℕ
-next_place s a (Ok None) = a
 next_place s a (Ok (Some l)) = line_end s a + 1
-next_place s a (Err f) = a
+next_place s a r = a
 
 pub record NextLine (s : Bor (List ℕ)) (a : ℕ) (r : Result (Option Line) Fault) (next : ℕ) : Type 0 where
   pub value : next_told r ≡ next_at s.now a

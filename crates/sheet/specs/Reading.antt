@@ -73,8 +73,7 @@ operand_of a_fabric w = index_of fabric_words w
 
 abbrev pub not_an : Operand → FaultKind
 not_an a_number = NotANumber
-not_an a_strength = UnknownWord
-not_an a_fabric = UnknownWord
+not_an o = UnknownWord
 
 abbrev pub known : FaultKind → ℕ → Option ℕ → Result ℕ Fault
 known kind place (Some v) = Ok v

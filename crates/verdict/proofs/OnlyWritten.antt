@@ -1,5 +1,5 @@
 -- What is read as a board and its entries was written from them.
-use Rattle.std.proofs.Common.{◌≡◌, ℕ, zero, suc, ◌<◌, Bool, true, false, cond, ltb, leb, List, [], ◌∷◌, ◌++◌, length, take, decimal, Ok, Err, Result, refl, ap, ◌∙◌, arith}
+use Rattle.std.proofs.Common.{◌≡◌, ℕ, suc, ◌<◌, Bool, true, false, cond, ltb, leb, List, [], ◌∷◌, ◌++◌, length, take, decimal, Ok, Err, Result, refl, ap, ◌∙◌, arith}
 use Rattle.std.proofs.lemmas.Slice.Eq.{bytes_eq-Decides}
 use Rattle.std.specs.Str.{bytes_eq}
 use Rattle.words.specs.declared.fault.Fault.{Fault}
@@ -22,10 +22,8 @@ avoided true r f y e = let z : ◌≡◌ {A = ℕ} 0 1 = cc in absurd (omega ari
 avoided false r f y e = e
 
 fabric_spelled : (k : ℕ) → k < length fabric_words → word_of fabric_words k ≡ fabric_word (fabric_named k)
-fabric_spelled zero h = refl
-fabric_spelled (suc zero) h = refl
-fabric_spelled (suc (suc zero)) h = refl
 fabric_spelled (suc (suc (suc k))) h = absurd (omega arith)
+fabric_spelled k h = refl
 
 abbrev board_line : Board → List ℕ
 board_line b = words_line (board_words b)

@@ -24,9 +24,8 @@ Throughout (o ∷ os) P = (v : ℕ) → Fit o v → Throughout os (λ vs. P (v �
 
 by_values : (os : List Operand) (P : List ℕ → Type 0) → Throughout os P → (vs : List ℕ) → Fits os vs → P vs
 by_values [] P all [] fit = all
-by_values [] P all (v ∷ vs) fit = absurd fit
-by_values (o ∷ os) P all [] fit = absurd fit
 by_values (o ∷ os) P all (v ∷ vs) fit = by_values os (λ vs. P (v ∷ vs)) (all v fit.0) vs fit.1
+by_values os P all vs fit = absurd fit
 
 -- what a line tells: an x that is written as line x, and has to be Good
 module _ {X : Type 0} (line : X → List ℕ) (Good : X → Type 0) where

@@ -91,12 +91,11 @@ module _ (o : Operand) (w : List ℕ) (v : ℕ) (reads : operand_of o w ≡ Some
 
 operands_read : (os : List Operand) (vs s : List ℕ) (a : ℕ) (t : List ℕ) → Fits os vs → drop a s ≡ after_word (spelled_all os vs) ++ t → operands_at os s a ≡ Ok vs
 operands_read [] [] s a t fits e = ap (λ (r : Result Unit Fault). followed_by r (λ _. Ok [])) (places.line_ends_here s a line_feed t e refl)
-operands_read [] (v ∷ vs) s a t fits e = absurd fits
-operands_read (o ∷ os) [] s a t fits e = absurd fits
 operands_read (o ∷ os) (v ∷ vs) s a t fits e =
     let one = operand_read o (spelled o v) v (spelled_back o v fits.0) (spelled_free o v fits.0) s a (spelled_all os vs) t e in
     ap (λ (r : Result ℕ Fault). followed_by r (λ u. followed_by (operands_at os s (operand_end s a)) (λ us. Ok (u ∷ us)))) one.0
     ∙ ap (λ (r : Result (List ℕ) Fault). followed_by r (λ us. Ok (v ∷ us))) (operands_read os vs s (operand_end s a) t fits.1 one.1)
+operands_read os vs s a t fits e = absurd fits
 
 -- how long a line of words is
 free_line : (w : List ℕ) → Free ends_word w → Free ends_line w
@@ -232,18 +231,15 @@ values b = b.shims ∷ b.lines ∷ fabric_number b.fabric ∷ []
 
 fabric_spelled : (f : FabricName) → fabric_word f ≡ word_of fabric_words (fabric_number f)
 fabric_spelled Ring = refl
-fabric_spelled Frames = refl
-fabric_spelled Staged = refl
+fabric_spelled f = refl
 
 fabric_fits : (f : FabricName) → fabric_number f < length fabric_words
 fabric_fits Ring = omega arith
-fabric_fits Frames = omega arith
-fabric_fits Staged = omega arith
+fabric_fits f = omega arith
 
 fabric_back : (f : FabricName) → fabric_named (fabric_number f) ≡ f
 fabric_back Ring = refl
-fabric_back Frames = refl
-fabric_back Staged = refl
+fabric_back f = refl
 
 module _ (s : List ℕ) (a : ℕ) (b : Board) (t : List ℕ) (fit : BoardFits b) (e : drop a s ≡ words_line (board_word ∷ spelled_all board_operands (values b)) ++ t) where
   fits : Fits board_operands (values b)

@@ -25,15 +25,13 @@ Fit a_fabric v = v < length fabric_words
 
 -- the same of operands one after the other
 abbrev pub spelled_all : List Operand → List ℕ → List (List ℕ)
-spelled_all [] vs = []
-spelled_all (o ∷ os) [] = []
 spelled_all (o ∷ os) (v ∷ vs) = spelled o v ∷ spelled_all os vs
+spelled_all os vs = []
 
 abbrev pub Fits : List Operand → List ℕ → Type 0
 Fits [] [] = Unit {0}
-Fits [] (v ∷ vs) = ⊥
-Fits (o ∷ os) [] = ⊥
 Fits (o ∷ os) (v ∷ vs) = Fit o v × Fits os vs
+Fits os vs = ⊥
 
 digits_free : (w : List ℕ) → all_ascii_digits w ≡ true → Free ends_word w
 digits_free [] e = tt
@@ -62,24 +60,15 @@ number_back v h =
 -- an operand's word is read as its value, and no byte of it ends a word
 pub spelled_back : (o : Operand) (v : ℕ) → Fit o v → operand_of o (spelled o v) ≡ Some v
 spelled_back a_number v h = number_back v h
-spelled_back a_strength zero h = refl
-spelled_back a_strength (suc zero) h = refl
-spelled_back a_strength (suc (suc zero)) h = refl
-spelled_back a_strength (suc (suc (suc zero))) h = refl
 spelled_back a_strength (suc (suc (suc (suc v)))) h = absurd (omega arith)
-spelled_back a_fabric zero h = refl
-spelled_back a_fabric (suc zero) h = refl
-spelled_back a_fabric (suc (suc zero)) h = refl
 spelled_back a_fabric (suc (suc (suc v))) h = absurd (omega arith)
+spelled_back o v h = refl
 
 pub spelled_free : (o : Operand) (v : ℕ) → Fit o v → Free ends_word (spelled o v)
 spelled_free a_number v h = digits_free (decimal v) (digits_decimal own v (omega arith))
-spelled_free a_strength zero h = (refl, (refl, (refl, tt)))
-spelled_free a_strength (suc zero) h = (refl, (refl, (refl, tt)))
-spelled_free a_strength (suc (suc zero)) h = (refl, (refl, (refl, tt)))
 spelled_free a_strength (suc (suc (suc zero))) h = (refl, (refl, tt))
 spelled_free a_strength (suc (suc (suc (suc v)))) h = absurd (omega arith)
+spelled_free a_strength v h = (refl, (refl, (refl, tt)))
 spelled_free a_fabric zero h = (refl, (refl, (refl, (refl, tt))))
-spelled_free a_fabric (suc zero) h = (refl, (refl, (refl, (refl, (refl, (refl, tt))))))
-spelled_free a_fabric (suc (suc zero)) h = (refl, (refl, (refl, (refl, (refl, (refl, tt))))))
 spelled_free a_fabric (suc (suc (suc v))) h = absurd (omega arith)
+spelled_free a_fabric v h = (refl, (refl, (refl, (refl, (refl, (refl, tt))))))

@@ -10,9 +10,8 @@ pub own : IsNumeralModel (λ ds. all_ascii_digits ds ≡ true) (value_after 0)
 own = numerals_by_fold _ tells_all_ascii_digits value_after (search rules)
 
 pub plain_digits : (w : List ℕ) → plain w ≡ true → (all_ascii_digits w ≡ true) × (0 < length w) × (get_or w 0 0 ≡ 48 → length w ≡ 1)
-plain_digits [] e = search rules
 plain_digits (c ∷ []) e = search rules
-plain_digits (c ∷ d ∷ ds) e = search rules
+plain_digits w e = search rules
 
 digits_ascii : (w : List ℕ) → all_ascii_digits w ≡ true → IsAscii w
 digits_ascii [] e i = omega arith
