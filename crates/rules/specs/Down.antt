@@ -46,7 +46,7 @@ line_updated (Some h) m = cond h.settled (held_updated h m) (Some h)
 abbrev pub line_acknowledged : Option Held → Message → Option Held
 line_acknowledged l m = cond (asks_sync m.mark) (settled_at (copy_of l) (stamp_of l + m.stamp)) l
 
--- a message of any other kind leaves the line
+-- the shim's line after a message of this kind
 abbrev pub line_by : Option Held → Message → Kind → Option Held
 line_by l m Write = line_updated l m
 line_by l m ReadResponse = settled_at m.value m.stamp
@@ -86,7 +86,7 @@ foreign_ack w l m =
     || (asks_sync m.mark && (not (is_unsettled l) || over_limit (stamp_of l + m.stamp))
     || is_sc m.mark && not (awaits_store w m.line))
 
--- a kind that does not come down is foreign
+-- is a message of this kind foreign; each is whose kind does not come down
 abbrev pub foreign_kind : Option Wait → Option Held → Message → Kind → Bool
 foreign_kind w l m Write = foreign_update l m
 foreign_kind w l m ReadResponse = not (awaits_load w m.line)

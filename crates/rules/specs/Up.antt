@@ -42,7 +42,7 @@ abbrev pub sent_if : Bool → Message → Option Message
 sent_if t m = cond t (Some m) None
 
 -- what shim j is sent when the hub, with h at the line of m, performs m, a message of this kind;
--- a kind that does not go up is foreign, whatever stands here and below for it
+-- the last clause, here and below, is for the kinds that do not go up
 abbrev pub sent_by : HubLine → Message → ℕ → Kind → Option Message
 sent_by h m j Write = cond (m.sender == j) (sent_if (owes_ack m.mark) (ack_message h m)) (sent_if (shares h j) (update_message h m))
 sent_by h m j ReadRequest = sent_if (m.sender == j) (read_message h m)
@@ -80,7 +80,7 @@ goes_up h (Some Write) = not (nat_le stamp_limit h.stamp)
 goes_up h (Some ReadRequest) = true
 goes_up h (Some FenceRequest) = true
 goes_up h (Some Drop) = true
-goes_up h k = false
+goes_up h o = false
 
 -- is m, on the up lane of shim s, a message that the hub does not perform
 abbrev pub foreign_up : Size → State → ℕ → Message → Bool

@@ -66,8 +66,7 @@ module _ (s : List ℕ) (a x : ℕ) (xs : List ℕ) (ws : List (List ℕ)) (t : 
 some_byte : (o : Operand) (w : List ℕ) (v : ℕ) → operand_of o w ≡ Some v → (x : ℕ) × ((xs : List ℕ) × (w ≡ x ∷ xs))
 some_byte o (x ∷ xs) v e = (x, (xs, refl))
 some_byte Operand.a_number [] v e = let z : ◌≡◌ {A = ℕ} 0 1 = cc in absurd (omega arith)
-some_byte Operand.a_strength [] v e = let z : ◌≡◌ {A = ℕ} 0 1 = cc in absurd (omega arith)
-some_byte Operand.a_fabric [] v e = let z : ◌≡◌ {A = ℕ} 0 1 = cc in absurd (omega arith)
+some_byte o [] v e = let z : ◌≡◌ {A = ℕ} 0 1 = cc in absurd (omega arith)
 
 module _ (o : Operand) (w : List ℕ) (v : ℕ) (reads : operand_of o w ≡ Some v) (free : Free ends_word w) (s : List ℕ) (a : ℕ) (ws : List (List ℕ)) (t : List ℕ) (e : drop a s ≡ after_word (w ∷ ws) ++ t) where
   module _ (x : ℕ) (xs : List ℕ) (is : w ≡ x ∷ xs) where
