@@ -1,5 +1,5 @@
--- The common order of a run: what it is. It is read from the calls and what the board said to each, and, where no message waits
--- at the end, from the hub's words and the copies held then.
+-- The common order of a run: what it is. The law is the record `CommonOrder`, at the end. It is read from the calls and what the
+-- board said to each, and, where no message waits at the end, from the hub's words and the copies held then.
 use Rattle.std.specs.Prelude.{◌≡◌, ℕ, ◌<◌, Bool, true, false, ◌&&◌, ◌≢◌, ◌⊎◌, List, length, take, filter, slice_get, Contains, Some, None, Ok, Result, ◌==◌, ⊤}
 use Rattle.rules.specs.declared.strength.Strength.TheVariants.{SeqCst}
 use Rattle.rules.specs.Strengths.{strength_number}
@@ -46,10 +46,11 @@ abbrev pub performs : Call → Outcome → Bool
 performs (Up s) (Ok a) = true
 performs c r = false
 
--- how many of the first k events are of shim s and pass the test
+-- an event passes a test where its call does, with what the board said to it
 abbrev pub passes : (Call → Outcome → Bool) → Event → Bool
 passes test e = elim e.outcome [ Some r ↦ test e.call r | None ↦ false ]
 
+-- how many of the first k events are of shim s and pass the test
 abbrev pub count : (Call → Outcome → Bool) → ℕ → Trace → ℕ → ℕ
 count test s t k = length (filter (λ e. shim_of e.call == s && passes test e) (take k t))
 
@@ -74,9 +75,13 @@ HubBefore t i j = (u : ℕ) × (v : ℕ) × Performs t u i × Performs t v j × 
 
 -- WHAT STANDS IN THE ORDER
 
--- the call at place i is an accepted store by shim s, of strength g, of w to line x
-abbrev pub Stored : Trace → ℕ → ℕ → ℕ → ℕ → ℕ → Type 0
-Stored t i s x g w = (a : Answer) × At t i (Store s x g w) (Ok a)
+-- the call at place i is an accepted store by shim s to line x, of strength g
+abbrev pub Stored : Trace → ℕ → ℕ → ℕ → ℕ → Type 0
+Stored t i s x g = (w : ℕ) × (a : Answer) × At t i (Store s x g w) (Ok a)
+
+-- .. which wrote w
+abbrev pub Wrote : Trace → ℕ → ℕ → Type 0
+Wrote t i w = (s : ℕ) × (x : ℕ) × (g : ℕ) × (a : Answer) × At t i (Store s x g w) (Ok a)
 
 -- the load of line x that shim s made at place i gave w: at once, or by the shim's next down that answered a word
 pub data Gave (t : Trace) (i s x w : ℕ) : Type 0 where
@@ -86,7 +91,7 @@ pub data Gave (t : Trace) (i s x w : ℕ) : Type 0 where
 
 -- the call at place i, of shim s, stands in the order; a fence does where a later down of the shim said that it has ended
 pub data Stands (t : Trace) (i s : ℕ) : Type 0 where
-  a_store : (x g w : ℕ) → Stored t i s x g w → Stands t i s
+  a_store : (x g : ℕ) → Stored t i s x g → Stands t i s
   a_load : (x w : ℕ) → Gave t i s x w → Stands t i s
   a_fence : (g d : ℕ) → At t i (Fence s g) (Ok Waits) → i < d → At t d (Down s) (Ok Ended) → Stands t i s
 
@@ -98,19 +103,21 @@ Before o i j = (p : ℕ) × (q : ℕ) × slice_get o p ≡ Some i × slice_get o
 
 -- a load, at place j, may stand before a store that its chip made earlier, at place i, if that is not SC
 abbrev pub MayPrecede : Trace → ℕ → ℕ → ℕ → Type 0
-MayPrecede t s j i = ((x : ℕ) × (w : ℕ) × Gave t j s x w) × ((x : ℕ) × (g : ℕ) × (w : ℕ) × Stored t i s x g w × g ≢ strength_number SeqCst)
+MayPrecede t s j i = ((x : ℕ) × (g : ℕ) × (r : Outcome) × At t j (Load s x g) r) × ((x : ℕ) × (g : ℕ) × Stored t i s x g × g ≢ strength_number SeqCst)
 
--- a load of shim s at place j sees a store, at place i by shim r, that stands before it or that its own chip made earlier
+-- a load, at place j of shim s, sees a store, at place i of shim q, that stands before it or that its own chip made earlier
 abbrev pub Sees : List ℕ → ℕ → ℕ → ℕ → ℕ → Type 0
-Sees o s j i r = Before o i j ⊎ ((r ≡ s) × (i < j))
+Sees o j s i q = Before o i j ⊎ ((q ≡ s) × (i < j))
 
--- w is what the last of the stores to line x in P, by place and shim, wrote; zero where there is none
+-- P says which stores count, each by its place and its shim: w is what the last store to line x that counts wrote, the one that
+-- all others that count stand before; zero where none counts
 abbrev pub Last : Trace → List ℕ → (ℕ → ℕ → Type 0) → ℕ → ℕ → Type 0
 Last t o P x w =
-    ((i : ℕ) × (s : ℕ) × (g : ℕ) × Stored t i s x g w × P i s × ((k r h v : ℕ) → Stored t k r x h v → P k r → k ≡ i ⊎ Before o k i))
-    ⊎ (((k r h v : ℕ) → Stored t k r x h v → P k r → ⊥) × w ≡ 0)
+    ((i : ℕ) × (s : ℕ) × (g : ℕ) × Stored t i s x g × P i s × Wrote t i w × ((k q h : ℕ) → Stored t k q x h → P k q → k ≡ i ⊎ Before o k i))
+    ⊎ (((k q h : ℕ) → Stored t k q x h → P k q → ⊥) × w ≡ 0)
 
--- what the order says of the end of a run: whether no message waits, the hub's words, the copies that shims hold
+-- the end of a run, as far as the law speaks of it: that no message waits; the hub's word of line x is w; shim s holds a copy of
+-- line x, and it is w
 pub record End : Type 1 where
   pub Quiet : Type 0
   pub HubWord : ℕ → ℕ → Type 0
@@ -123,14 +130,14 @@ pub record CommonOrder (t : Trace) (z : End) (o : List ℕ) : Type 0 where
   pub all : (i s : ℕ) → Stands t i s → Contains o i
   -- what the hub performed keeps the hub's order, and stands before stores that it has not performed
   pub as_hub : (i j : ℕ) → Contains o i → Contains o j → HubBefore t i j → Before o i j
-  pub then_rest : (i j s x g w : ℕ) → Contains o i → Performed t i → Stored t j s x g w → ¬ Performed t j → Before o i j
+  pub unperformed_last : (i j s x g : ℕ) → Contains o i → Performed t i → Stored t j s x g → ¬ Performed t j → Before o i j
   -- a chip's calls keep their order, but a load may precede its chip's earlier store that is not SC
   pub as_chip : (i j s : ℕ) → Stands t i s → Stands t j s → i < j → ¬ MayPrecede t s j i → Before o i j
   -- a load gave what the last store to its line that it sees wrote
-  pub loads : (j s x w : ℕ) → Gave t j s x w → Last t o (Sees o s j) x w
+  pub loads : (j s x w : ℕ) → Gave t j s x w → Last t o (Sees o j s) x w
   -- once no message waits, the hub's word and every held copy of a line are what the last store to it wrote
-  pub words : z.Quiet → (x w : ℕ) → z.HubWord x w → Last t o (λ i s. ⊤) x w
-  pub copies : z.Quiet → (s x w : ℕ) → z.HeldCopy s x w → Last t o (λ i s. ⊤) x w
+  pub words : z.Quiet → (x w : ℕ) → z.HubWord x w → Last t o (λ k q. ⊤) x w
+  pub copies : z.Quiet → (s x w : ℕ) → z.HeldCopy s x w → Last t o (λ k q. ⊤) x w
 
 abbrev pub HasCommonOrder : Trace → End → Type 0
 HasCommonOrder t z = (o : List ℕ) × CommonOrder t z o

@@ -1,6 +1,7 @@
 ghost use Rattle.std.specs.Prelude.{◌≡◌};
 ghost use Rattle.board.specs.Made.{made_of};
 ghost use Rattle.run.specs.Bytes.{run_in};
+ghost use Rattle.run.specs.Whole.{Ordered};
 
 use crate::run::run_events;
 use board::Board;
@@ -17,6 +18,7 @@ pub fn run_in_bytes(
     ensures made { made_of result ≡ (run_in bytes.old shims lines events.old).made }
     ensures events { events.new ≡ (run_in bytes.old shims lines events.old).events }
     ensures bytes { bytes.new ≡ (run_in bytes.old shims lines events.old).fabric.state.bytes }
+    ensures order { Ordered result events.new (run_in bytes.old shims lines events.old).fabric.lanes }
 {
     let mut fabric = Frames::new(bytes, shims as usize);
     run_events(shims, lines, &mut fabric, events)
