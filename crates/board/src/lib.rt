@@ -10,7 +10,6 @@ mod fence;
 mod lanes;
 mod load;
 mod make;
-mod request;
 mod store;
 mod up;
 

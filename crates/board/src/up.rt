@@ -1,5 +1,7 @@
-ghost use Rattle.std.specs.Prelude.{◌≡◌, ◌*◌, true, length, MatchOption, IfOk};
+ghost use Rattle.std.specs.Prelude.{◌≡◌, ◌*◌, ◌<◌, true, ◌&&◌, length, is_some, MatchOption, IfOk};
+ghost use Rattle.fabric.specs.Lanes.{shim_limit, is_full};
 ghost use Rattle.rules.specs.Refusals.{passing};
+ghost use Rattle.rules.specs.State.{down_lane};
 ghost use Rattle.rules.specs.Up.{sent_by, send_all, full_lanes, foreign_up};
 ghost use Rattle.board.specs.Room.{HasRoom};
 ghost use Rattle.board.specs.Upward.{Upward};
@@ -8,10 +10,9 @@ ghost use Rattle.board.specs.Called.{left, called};
 
 use crate::board::Board;
 use crate::lanes::{down_lane, up_lane};
-use crate::request::Request;
-use effects::goes_up;
+use effects::Request;
 use fabric::{Fabric, FabricFault, Message};
-use rules::{Answer, Kind, Outcome, Refusal};
+use rules::{Answer, Outcome, Refusal};
 
 impl Board {
     // The hub performs the first message of a shim's up lane.
@@ -38,12 +39,7 @@ impl Board {
         if x >= self.size.lines || msg.sender as u32 != shim {
             return None;
         }
-        let kind = Kind::try_from(msg.kind).ok()?;
-        let hub = self.state.hub[x];
-        if !goes_up(hub, kind) {
-            return None;
-        }
-        Some(Request { msg, kind, hub })
+        Request::of(self.state.hub[x], msg)
     }
 
     // Refuses where a lane is full that a shim is to be sent something on.
@@ -51,8 +47,8 @@ impl Board {
         ensures rule { result ≡ passing (full_lanes (λ j. sent_by request.hub request.msg j request.kind) (F.Fabric.model fabric.now).lanes self.now.size.shims) tt }
         ensures room { IfOk result (λ _. HasRoom (λ j. sent_by request.hub request.msg j request.kind) (F.Fabric.model fabric.now).lanes self.now.size.shims) }
     {
-        match (0..self.size.shims).find(|&shim| request.is_blocked(fabric, shim)) {
-            Some(shim) => Err(Refusal::Fabric(FabricFault::Full(down_lane(shim)))),
+        match (0..self.size.shims).find(|&shim| is_blocked(fabric, request, shim)) {
+            Some(shim) => Err(FabricFault::Full(down_lane(shim)).into()),
             None => Ok(()),
         }
     }
@@ -70,4 +66,13 @@ impl Board {
             }
         }
     }
+}
+
+// Whether a shim is to be sent something and its lane is full.
+fn is_blocked<F: Fabric>(fabric: &F, request: Request, shim: usize) -> bool
+    requires { shim < shim_limit }
+    ensures { result ≡ (is_some (sent_by request.hub request.msg shim request.kind) && is_full (F.Fabric.model fabric.now).lanes (down_lane shim)) }
+{
+    let lane = down_lane(shim);
+    request.reply(shim).is_some() && fabric.waiting(lane) >= fabric.capacity(lane)
 }

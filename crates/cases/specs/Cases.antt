@@ -1,5 +1,5 @@
 -- Cases that follow from the rules.
-use Rattle.std.specs.Prelude.{◌≡◌, false, [], ◌∷◌, replicate, None, Err}
+use Rattle.std.specs.Prelude.{◌≡◌, false, [], ◌∷◌, replicate, Err}
 use Rattle.fabric.specs.Backing.{no_backing, put_on}
 use Rattle.fabric.specs.Frame.{frame_of}
 use Rattle.fabric.specs.Lanes.{set_messages}
@@ -10,13 +10,13 @@ use Rattle.rules.specs.Evict.{evict_rule}
 use Rattle.rules.specs.Refusals.{refusal_number}
 use Rattle.rules.specs.Requests.{store_message, fence_message}
 use Rattle.rules.specs.State.{settled_at, unsettled_at, with_line, fresh_state, up_lane, down_lane}
-use Rattle.rules.specs.Store.{line_stored, store_rule}
+use Rattle.rules.specs.Store.{store_rule}
 use Rattle.rules.specs.Strengths.{strength_number}
 use Rattle.rules.specs.Up.{fenced_message, up_rule}
 use Rattle.rules.specs.declared.kind.Kind.TheVariants.{FenceResponse}
 use Rattle.rules.specs.declared.refusal.Refusal.TheVariants.{Unsettled, Fabric}
 use Rattle.rules.specs.declared.strength.Strength.TheVariants.{Relaxed, Release}
-use Rattle.cases.specs.Scenes.{small, quiet, update, acknowledgement, line_after, shared_line}
+use Rattle.cases.specs.Scenes.{small, quiet, update, acknowledgement, line_after, stored_twice, shared_line}
 
 pub record Cases : Type 0 where
   -- the frame of a store of 7 with release strength, on a line that its shim, number 0, does not hold
@@ -24,7 +24,7 @@ pub record Cases : Type 0 where
       frame_of (first_on (store_rule no_backing (small 2) fresh_state (quiet 2) 0 0 (strength_number Release) 7).fabric.lanes (up_lane 0))
       ≡ 0x01 ∷ 0x00 ∷ 0x12 ∷ 0x00 ∷ 0x00 ∷ 0x00 ∷ 0x00 ∷ 0x07 ∷ 0x00 ∷ 0x00 ∷ 0x00 ∷ 0x00 ∷ []
   -- two stores on a line that is not held, then an acknowledgement of stamp 5: stamp 7
-  pub acknowledged : line_after (line_stored (line_stored None 1) 2) (acknowledgement 5) ≡ settled_at 2 7
+  pub acknowledged : line_after stored_twice (acknowledgement 5) ≡ settled_at 2 7
   -- a copy of stamp 5, an update of stamp 6: written
   pub written : line_after (settled_at 10 5) (update 6) ≡ settled_at 20 6
   -- a copy of stamp 6, an update of stamp 6: kept, and its stamp rises

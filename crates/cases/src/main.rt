@@ -26,7 +26,7 @@ fn store_frame() -> [u8; FRAME_LEN]
 fn tell(rt: &HostRuntime, name: &str, outcome: Outcome) -> io::Result<()> {
     match outcome {
         Ok(_) => println!(rt; "{name}: good"),
-        Err(refusal) => println!(rt; "{name}: no {}", u8::from(refusal)),
+        Err(refusal) => println!(rt; "{name}: no {refusal}"),
     }
 }
 

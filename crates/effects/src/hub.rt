@@ -1,34 +1,84 @@
-ghost use Rattle.std.specs.Prelude.{◌≡◌, ◌<◌, if◌then◌else◌, Some, None, slice_set};
+ghost use Rattle.std.specs.Prelude.{◌≡◌, ◌<◌, true, false, Some, MatchOption, slice_set};
+ghost use Rattle.rules.specs.Kinds.{kind_of};
 ghost use Rattle.rules.specs.State.{stamp_limit, shares};
 ghost use Rattle.rules.specs.Up.{goes_up, owes_ack, sent_if, ack_message, update_message, read_message, fenced_message, sent_by, hub_by};
 
 use fabric::{MAX_SHIMS, Message};
 use rules::{HubLine, Kind, STAMP_LIMIT, asks_sync, fence_request, is_sc, mark_strength};
 
+// A message that the hub performs, its kind, and the hub's line that it names.
+#[derive(Clone, Copy)]
+pub struct Request {
+    pub msg: Message,
+    pub kind: Kind,
+    pub hub: HubLine,
+    ghost goes: { goes_up hub (Some kind) ≡ true },
+}
+
+impl Request {
+    // What a message asks of the hub's line that it names; none where the hub does not perform it.
+    pub fn of(hub: HubLine, msg: Message) -> Option<Request>
+        ensures { MatchOption result (goes_up hub (kind_of msg.kind) ≡ false) (λ r. (r.msg ≡ msg) × (r.hub ≡ hub) × (kind_of msg.kind ≡ Some r.kind)) }
+    {
+        let kind = Kind::try_from(msg.kind).ok()?;
+        if !goes_up(hub, kind) {
+            return None;
+        }
+        Some(Request { msg, kind, hub })
+    }
+
+    // What a shim is sent when the hub performs the message.
+    pub fn reply(self, shim: usize) -> Option<Message>
+        ensures { result ≡ sent_by self.hub self.msg shim self.kind }
+    {
+        let own = self.msg.sender as usize == shim;
+        match self.kind {
+            Kind::Write if own => write_ack(self.hub, self.msg),
+            Kind::Write if shares(self.hub, shim) => Some(update(self.hub, self.msg)),
+            Kind::ReadRequest if own => Some(read_response(self.hub, self.msg)),
+            Kind::FenceRequest if own => Some(fence_message(Kind::FenceResponse, self.msg)),
+            Kind::FenceRequest => Some(fence_message(Kind::FenceRequest, self.msg)),
+            _ => None,
+        }
+    }
+
+    // The hub's line once the message is performed.
+    pub fn performed(self) -> HubLine
+        ensures { result ≡ hub_by self.hub self.msg self.kind }
+    {
+        let hub = self.hub;
+        let sender = self.msg.sender as usize;
+        match self.kind {
+            Kind::Write => HubLine {
+                word: self.msg.value,
+                stamp: hub.stamp + 1,
+                sharers: if asks_sync(self.msg.mark) {
+                    with_sharer(hub.sharers, sender, true)
+                } else {
+                    hub.sharers
+                },
+            },
+            Kind::ReadRequest => HubLine {
+                sharers: with_sharer(hub.sharers, sender, true),
+                ..hub
+            },
+            Kind::Drop => HubLine {
+                sharers: with_sharer(hub.sharers, sender, false),
+                ..hub
+            },
+            _ => hub,
+        }
+    }
+}
+
 // Whether the hub performs messages of this kind at this line.
-pub fn goes_up(hub: HubLine, kind: Kind) -> bool
+fn goes_up(hub: HubLine, kind: Kind) -> bool
     ensures { result ≡ goes_up hub (Some kind) }
 {
     match kind {
         Kind::Write => hub.stamp < STAMP_LIMIT,
         Kind::ReadRequest | Kind::FenceRequest | Kind::Drop => true,
         Kind::ReadResponse | Kind::FenceResponse | Kind::WriteAck => false,
-    }
-}
-
-// What a shim is sent when a message of this kind is performed at this line; nothing where the hub does not perform it.
-pub fn reply(hub: HubLine, msg: Message, kind: Kind, shim: usize) -> Option<Message>
-    ensures { result ≡ (if goes_up hub (Some kind) then sent_by hub msg shim kind else None) }
-{
-    let own = msg.sender as usize == shim;
-    match kind {
-        Kind::Write if hub.stamp >= STAMP_LIMIT => None,
-        Kind::Write if own => write_ack(hub, msg),
-        Kind::Write if shares(hub, shim) => Some(update(hub, msg)),
-        Kind::ReadRequest if own => Some(read_response(hub, msg)),
-        Kind::FenceRequest if own => Some(fence_message(Kind::FenceResponse, msg)),
-        Kind::FenceRequest => Some(fence_message(Kind::FenceRequest, msg)),
-        _ => None,
     }
 }
 
@@ -84,33 +134,6 @@ fn fence_message(kind: Kind, msg: Message) -> Message
     Message {
         kind: kind.into(),
         ..fence_request(msg.sender)
-    }
-}
-
-// The hub's line after a message of this kind; as it was where the hub does not perform it.
-pub fn performed(hub: HubLine, msg: Message, kind: Kind) -> HubLine
-    ensures { result ≡ (if goes_up hub (Some kind) then hub_by hub msg kind else hub) }
-{
-    let sender = msg.sender as usize;
-    match kind {
-        Kind::Write if hub.stamp < STAMP_LIMIT => HubLine {
-            word: msg.value,
-            stamp: hub.stamp + 1,
-            sharers: if asks_sync(msg.mark) {
-                with_sharer(hub.sharers, sender, true)
-            } else {
-                hub.sharers
-            },
-        },
-        Kind::ReadRequest => HubLine {
-            sharers: with_sharer(hub.sharers, sender, true),
-            ..hub
-        },
-        Kind::Drop => HubLine {
-            sharers: with_sharer(hub.sharers, sender, false),
-            ..hub
-        },
-        _ => hub,
     }
 }
 

@@ -4,5 +4,5 @@
 mod hub;
 mod shim;
 
-pub use hub::{goes_up, performed, reply};
+pub use hub::Request;
 pub use shim::{Delivery, deliver};

@@ -16,7 +16,7 @@ returns-in-Some-clause-rule g c =
     let k = c.in-Some.shim in
     let first : (0 ≤ k) × (k < c.args.self.now.size.shims) × (blocked sent lanes k ≡ true) × ((j : ℕ) → 0 ≤ j → j < k → blocked sent lanes j ≡ false) =
     first_from_Range _ _ _ (Some k) (λ j. blocked sent lanes j ≡ true) (λ j. blocked sent lanes j ≡ false) c.in-Some.ensures.ran (λ x q k. search (rules, tests)) (λ x q k. search (rules, tests)) in
-    rw c.down_lane.ensures (sym (first_full sent lanes c.args.self.now.size.shims k first.1 (λ j lt. first.3 j (omega arith) lt) first.2))
+    rw (c.into.ensures, c.down_lane.ensures) (sym (first_full sent lanes c.args.self.now.size.shims k first.1 (λ j lt. first.3 j (omega arith) lt) first.2))
 
 pub returns-in-None : goal.returns-in-None
 returns-in-None g c =
