@@ -28,6 +28,11 @@ answer_bytes (Value w) = codes "value " ++ decimal w
 answer_bytes Ended = codes "ended"
 answer_bytes (Handled k) = kind_word k
 
+-- what stands behind the word of an answer: the word that a load gave, or nothing
+abbrev pub answer_carries : Answer → List ℕ
+answer_carries (Value w) = w ∷ []
+answer_carries a = []
+
 -- the refusal's number and what it carries
 abbrev pub refusal_bytes : Refusal → List ℕ
 refusal_bytes e = decimal (refusal_number e) ++ spaced (refusal_carries e)

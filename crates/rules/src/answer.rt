@@ -1,10 +1,9 @@
-ghost use Rattle.std.specs.Prelude.{Some};
-ghost use Rattle.rules.specs.Words.{answer_bytes};
+ghost use Rattle.std.specs.Prelude.{◌≡◌, ◌++◌};
+ghost use Rattle.rules.specs.Words.{answer_bytes, answer_carries, spaced};
 
 use crate::kind::Kind;
 use crate::refusal::Refusal;
 use fabric::Word;
-use std::fmt;
 
 // What a board answers to a call that it accepts.
 #[derive(Clone, Copy, PartialEq, Eq, Debug)]
@@ -21,16 +20,17 @@ pub enum Answer {
     Handled(Kind),
 }
 
-impl fmt::Display for Answer {
-    ghost output = { λ a. Some (answer_bytes a) };
-
-    fn fmt<W: fmt::Write>(&self, f: &mut fmt::Formatter<W>) -> fmt::Result {
+impl Answer {
+    // The word of an answer. What the answer carries stands behind it.
+    pub fn word(self) -> &'static [u8]
+        ensures { answer_bytes self ≡ result.now ++ spaced (answer_carries self) }
+    {
         match self {
-            Answer::Done => f.write_str("done"),
-            Answer::Waits => f.write_str("waits"),
-            Answer::Value(word) => write!(f, "value {word}"),
-            Answer::Ended => f.write_str("ended"),
-            Answer::Handled(kind) => write!(f, "{kind}"),
+            Answer::Done => b"done",
+            Answer::Waits => b"waits",
+            Answer::Value(_) => b"value",
+            Answer::Ended => b"ended",
+            Answer::Handled(kind) => kind.word(),
         }
     }
 }

@@ -1,9 +1,8 @@
-ghost use Rattle.std.specs.Prelude.{◌≡◌, Some};
+ghost use Rattle.std.specs.Prelude.{◌≡◌};
 ghost use Rattle.rules.specs.Kinds.{kind_number, DecodesKind};
 ghost use Rattle.rules.specs.Words.{kind_word};
 
 use crate::unknown::UnknownNumber;
-use std::fmt;
 
 // What a message is for.
 #[derive(Clone, Copy, PartialEq, Eq, Debug)]
@@ -44,18 +43,19 @@ impl TryFrom<u8> for Kind {
     }
 }
 
-impl fmt::Display for Kind {
-    ghost output = { λ k. Some (kind_word k) };
-
-    fn fmt<W: fmt::Write>(&self, f: &mut fmt::Formatter<W>) -> fmt::Result {
-        f.write_str(match self {
-            Kind::Write => "WRITE",
-            Kind::ReadRequest => "RREQ",
-            Kind::ReadResponse => "RRESP",
-            Kind::FenceRequest => "FREQ",
-            Kind::FenceResponse => "FRESP",
-            Kind::WriteAck => "WRITE_ACK",
-            Kind::Drop => "DROP",
-        })
+impl Kind {
+    // The word of a kind.
+    pub fn word(self) -> &'static [u8]
+        ensures { result.now ≡ kind_word self }
+    {
+        match self {
+            Kind::Write => b"WRITE",
+            Kind::ReadRequest => b"RREQ",
+            Kind::ReadResponse => b"RRESP",
+            Kind::FenceRequest => b"FREQ",
+            Kind::FenceResponse => b"FRESP",
+            Kind::WriteAck => b"WRITE_ACK",
+            Kind::Drop => b"DROP",
+        }
     }
 }

@@ -1,3 +1,4 @@
 pub mod Faults
 pub mod Lengths
 pub mod Numbers
+pub mod Parts

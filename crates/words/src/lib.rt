@@ -2,7 +2,9 @@
 #![tactic(auto)]
 
 mod fault;
+mod parts;
 mod text;
 
 pub use fault::{Fault, FaultKind};
+pub use parts::write_parts;
 pub use text::{line_length, number, word_length};
