@@ -1,4 +1,5 @@
 ghost use Rattle.std.specs.Prelude.{◌≡◌, ℕ};
+ghost use Rattle.session.specs.Agreement.{Agrees};
 ghost use Rattle.session.specs.Meaning.{play_in, play_of};
 ghost use Rattle.session.specs.Playing.{begun_by, started};
 
@@ -32,6 +33,7 @@ impl<'a> Phase<'a> {
 impl<'a> Session<'a> {
     // A run of the sheet, from its start. The buffer is for the frames of a sheet that asks for them.
     pub fn new(sheet: &'a [u8], buffer: &'a mut [u8; BUFFER_LEN]) -> Session<'a>
+        ensures agrees { Agrees sheet.now }
         ensures play { play_of result ≡ started sheet.now }
         ensures sheet { result.reader.sheet ≡ sheet.entry }
     {

@@ -3,7 +3,6 @@ use Rattle.std.specs.Option.{option_map}
 use Rattle.session.specs.Items.{Item}
 use Rattle.session.specs.Meaning.{play_of, item_of}
 use Rattle.session.specs.Playing.{Play, started, next_item, printed_by}
-use Rattle.session.proofs.Agreeing.{agrees}
 use Rattle.session.proofs.Reports.{ToCome, left_of, falls, all_to_come, one_printed, all_printed}
 use Rattle.session.proofs.printer.report.Goals as goal
 
@@ -38,14 +37,11 @@ loop-printed-preserved c =
     let h = c.loop-printed.invariant.1 in (
       ap (λ x. x.now) c.in-Some.ensures.sheet ∙ same,
       subst (λ q. (m : ℕ) × ToCome m s q (vec_items c.write.new.out) (printed_by s)) (sym (c.in-Some.ensures.left ∙ ap (λ t. (next_item t p).1) same))
-          (one_printed h.0 s p _ _ _ _ (of_same s _ p _ same c.in-Some.ensures.item) h.1 c.in_ok-write.ensures),
+          (one_printed h.0 s p _ _ _ _ (of_same s _ p _ same c.in-Some.ensures.item) h.1 c.in_ok-write.ensures.bytes),
     )
 
-pub returns-clause-printed : goal.returns-clause-printed
-returns-clause-printed c =
+pub returns : goal.returns
+returns c =
     let s = c.args.sheet.now in
     let h = c.loop-printed.invariant.1 in
     all_printed h.0 s (play_of c.loop-printed.session) _ _ (of_same s _ _ _ c.loop-printed.invariant.0 (ap (option_map item_of) (sym c.in_default.is) ∙ c.next.ensures.item)) h.1
-
-pub returns-clause-agrees : goal.returns-clause-agrees
-returns-clause-agrees c = agrees c.args.sheet.now

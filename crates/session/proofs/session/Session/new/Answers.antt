@@ -3,6 +3,7 @@ use Rattle.words.specs.declared.fault.Fault.{Fault}
 use Rattle.sheet.specs.Reading.{board_end, opened}
 use Rattle.sheet.specs.declared.line.Board.{Board}
 use Rattle.session.specs.Playing.{begun_by}
+use Rattle.session.proofs.Agreeing.{agrees}
 use Rattle.session.proofs.session.Session.new.Goals as goal
 
 -- a reader that has read the board line is at the line after it
@@ -20,3 +21,6 @@ returns-clause-play c =
     c.first-phase.ensures at
     ∙ read_on s r a at (c.board.ensures.after ∙ ap (λ (t : List ℕ). cond (is_ok r) (board_end t) a) same)
     ∙ ap (begun_by s (board_end s)) (c.board.ensures.value ∙ ap opened same)
+
+pub returns-clause-agrees : goal.returns-clause-agrees
+returns-clause-agrees c = agrees c.args.sheet.now
