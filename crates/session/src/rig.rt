@@ -26,6 +26,7 @@ impl<'a> Rig<'a> {
         ensures { (place : ℕ) → running_on place 0 result ≡ running (begun place asked) }
     {
         let carrier = Carrier::new(asked.fabric, asked.shims as usize, buffer);
+        // Never refused: the size is one of a board, and the fabric is new.
         let board = make_board(&carrier, asked.shims, asked.lines).unwrap();
         Rig { board, carrier }
     }
