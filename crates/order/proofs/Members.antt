@@ -5,7 +5,7 @@ use Rattle.std.specs.Prelude.{◌≢◌, slice_get}
 use Rattle.std.proofs.lemmas.Bool.{cases_order, cases_eq, eq-eqb, lt-ltb, ltb-true}
 use Rattle.rules.specs.declared.strength.Strength.TheVariants.{SeqCst}
 use Rattle.rules.specs.Strengths.{strength_number}
-use Rattle.order.specs.Common.{Call, Load, Store, Fence, Evict, Up, Down, Outcome, Waits, Value, Ended, Event, Trace, At, shim_of, passes, sends}
+use Rattle.order.specs.Common.{Call, Load, Store, Fence, Down, Outcome, Waits, Value, Ended, Event, Trace, At, shim_of, passes, sends}
 use Rattle.order.specs.Common.{Stored, Wrote, at_once, later, Stands, a_store, a_load, a_fence}
 use Rattle.order.proofs.Machine.{Write, Read, Sync, ForStore, wait_after, Board}
 use Rattle.order.proofs.Lists.{onto, Compared, Member, Spot, spot_member, suffix_spot, member_onto}

@@ -3,8 +3,8 @@
 use Rattle.std.proofs.Common.{◌≡◌, ℕ, suc, ◌+◌, ◌≤◌, Bool, true, false, cond, eqb, ltb, ◌⊎◌, List, [], ◌∷◌, refl, ap, ◌∙◌, inl, inr, true≢false, arith}
 use mathlib.Core.Bool.{false≢true}
 use Rattle.std.proofs.lemmas.Bool.{eqb-true, ltb-true, ltb-false, lt-ltb, le-ltb}
-use Rattle.order.proofs.Machine.{Request, Write, Read, Sync, Drop, Act, Writes, Reads, Drops, Nothing, act, Notice, Line, NotHeld, Unsettled, Settled, Wait, Ready, ForLoad}
-use Rattle.order.proofs.Machine.{ForStore, ForFence, unheld, sc, line_after, wait_after, word_after, stamp_after, shares_after, notices, updated, acked, heard_line}
+use Rattle.order.proofs.Machine.{Request, Write, Read, Sync, Drop, Act, Writes, Reads, Drops, Nothing, act, Notice, Line, NotHeld, Unsettled, Settled, Wait, Ready}
+use Rattle.order.proofs.Machine.{unheld, sc, line_after, wait_after, word_after, stamp_after, shares_after, notices, updated, acked, heard_line}
 
 -- acts on a line, oldest first
 abbrev pub replay : List Act → Line → Line

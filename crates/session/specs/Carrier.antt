@@ -1,10 +1,17 @@
--- The lanes of the fabric of a sheet.
+-- The fabric of a sheet: its name, and its lanes.
 use Rattle.fabric.specs.Backing.{Backing, Model, no_backing}
 use Rattle.frames.specs.Frames.{frames_model}
 use Rattle.ring.specs.Ring.{ring_model}
 use Rattle.stage.specs.Stage.{stage_model}
+use Rattle.sheet.specs.declared.line.FabricName.{FabricName}
+use Rattle.sheet.specs.declared.line.FabricName.TheVariants as name
 use Rattle.session.specs.declared.carrier.Carrier.{Carrier}
 use Rattle.session.specs.declared.carrier.Carrier.TheVariants.{Ring, Frames, Staged}
+
+abbrev pub carrier_name : Carrier → FabricName
+carrier_name (Ring r) = name.Ring
+carrier_name (Frames f) = name.Frames
+carrier_name (Staged s) = name.Staged
 
 -- the lanes of a fabric, with nothing behind them
 abbrev pub bare : {ω : Backing} → Model ω → Model no_backing

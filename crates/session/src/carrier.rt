@@ -1,6 +1,6 @@
 ghost use Rattle.std.specs.Prelude.{◌≡◌, ◌≤◌};
 ghost use Rattle.fabric.specs.Lanes.{shim_limit};
-ghost use Rattle.session.specs.Carrier.{carrier_lanes};
+ghost use Rattle.session.specs.Carrier.{carrier_name, carrier_lanes};
 ghost use Rattle.session.specs.Playing.{empty_fabric};
 
 use frames::Frames;
@@ -27,7 +27,8 @@ impl<'a> Carrier<'a> {
         buffer: &'a mut [u8; BUFFER_LEN],
     ) -> Carrier<'a>
         requires { (1 ≤ shims) × (shims ≤ shim_limit) }
-        ensures { carrier_lanes result ≡ empty_fabric name shims }
+        ensures fabric { carrier_name result ≡ name }
+        ensures lanes { carrier_lanes result ≡ empty_fabric name shims }
     {
         match name {
             FabricName::Ring => Carrier::Ring(Ring::new(shims)),

@@ -21,4 +21,4 @@ unwrap-board-requires c =
     let asked = c.args.asked in
     made_board c.make_board.result
     (λ e refused. made_over_empty asked.shims asked.lines (capacity_named asked.fabric asked.shims) e c.requires
-    (sym refused ∙ c.make_board.ensures ∙ ap (λ (x : Model no_backing). make_rule x.lanes asked.shims asked.lines) c.new-carrier.ensures))
+    (sym refused ∙ c.make_board.ensures ∙ ap (λ (x : Model no_backing). make_rule x.lanes asked.shims asked.lines) c.new-carrier.ensures.lanes))
