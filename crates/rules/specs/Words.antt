@@ -1,6 +1,7 @@
 -- The words of kinds, answers and refusals, byte by byte.
-use Rattle.std.specs.Prelude.{ℕ, List, [], ◌∷◌, ◌++◌, codes, decimal}
-use Rattle.rules.specs.Refusals.{refusal_number, refusal_carries}
+use Rattle.std.specs.Prelude.{ℕ, List, [], ◌∷◌, ◌++◌, map, codes, decimal}
+use Rattle.std.specs.List.{join_with_byte}
+use Rattle.rules.specs.Refusals.{refusal_told}
 use Rattle.rules.specs.declared.answer.Answer.{Answer}
 use Rattle.rules.specs.declared.answer.Answer.TheVariants.{Done, Waits, Value, Ended, Handled}
 use Rattle.rules.specs.declared.kind.Kind.{Kind}
@@ -33,6 +34,6 @@ abbrev pub answer_carries : Answer → List ℕ
 answer_carries (Value w) = w ∷ []
 answer_carries a = []
 
--- the refusal's number and what it carries
+-- what is told of a refusal, numbers parted by a space (32)
 abbrev pub refusal_bytes : Refusal → List ℕ
-refusal_bytes e = decimal (refusal_number e) ++ spaced (refusal_carries e)
+refusal_bytes e = join_with_byte 32 (map decimal (refusal_told e))
