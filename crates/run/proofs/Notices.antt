@@ -1,6 +1,7 @@
 -- What the hub sends down when it performs a message: the lanes after it, and that the machine sends the same.
-use Rattle.std.proofs.Common.{◌≡◌, ℕ, zero, suc, ◌*◌, ◌<◌, ◌≤◌, Bool, true, false, eqb, ◌≢◌, List, [], ◌∷◌, ◌++◌, map, length, Some, None, Option, sym, refl, ap, ◌∙◌, ⊎_elim, append-nil, add-one, arith}
+use Rattle.std.proofs.Common.{◌≡◌, ℕ, zero, suc, ◌*◌, ◌<◌, ◌≤◌, Bool, true, false, eqb, ◌≢◌, List, ◌++◌, map, length, Some, None, Option, sym, refl, ap, ◌∙◌, ⊎_elim, append-nil, add-one, arith}
 use mathlib.Core.Bool.{false≢true}
+use Rattle.std.specs.Option.{option_to_list}
 use Rattle.std.proofs.lemmas.Bool.{cases_Bool, cases_eq}
 use Rattle.fabric.proofs.Changes.{Changed, changed}
 use Rattle.fabric.specs.Backing.{Backing, Model}
@@ -14,18 +15,14 @@ use Rattle.rules.specs.declared.state.State.{State}
 use Rattle.order.proofs.Machine.{notices}
 use Rattle.run.proofs.Meaning.{request_by, notice_of}
 
-abbrev pub list_of : Option Message → List Message
-list_of None = []
-list_of (Some m) = m ∷ []
-
 -- after the first n shims were sent their messages
 pub record Sent {ω : Backing} (sent : ℕ → Option Message) (φ φ' : Model ω) (n : ℕ) : Type 0 where
   pub count : length φ'.lanes ≡ length φ.lanes
-  pub here : (j : ℕ) → j < n → messages_of φ'.lanes (down_lane j) ≡ messages_of φ.lanes (down_lane j) ++ list_of (sent j)
+  pub here : (j : ℕ) → j < n → messages_of φ'.lanes (down_lane j) ≡ messages_of φ.lanes (down_lane j) ++ option_to_list (sent j)
   pub there : (k : ℕ) → ((j : ℕ) → j < n → k ≢ down_lane j) → messages_of φ'.lanes k ≡ messages_of φ.lanes k
 
 sent_one : (ω : Backing) (φ : Model ω) (j : ℕ) (o : Option Message) → down_lane j < length φ.lanes
-    → Changed φ.lanes (send_one ω φ j o).lanes (down_lane j) (messages_of φ.lanes (down_lane j) ++ list_of o)
+    → Changed φ.lanes (send_one ω φ j o).lanes (down_lane j) (messages_of φ.lanes (down_lane j) ++ option_to_list o)
 sent_one ω φ j None low = record { count = refl; capacities = λ k. refl; here = sym (append-nil (messages_of φ.lanes (down_lane j))); there = λ k ne. refl }
 sent_one ω φ j (Some m) low = changed φ.lanes (send_one ω φ j (Some m)).lanes (down_lane j) _ low refl
 
@@ -37,7 +34,7 @@ sent_all ω sent φ (suc n) low =
     record {
       count = one.count ∙ before.count;
       here =
-          λ j lt. ⊎_elim (λ (e : j ≡ n). rw e (one.here ∙ ap (λ (ms : List Message). ms ++ list_of (sent n)) (before.there (down_lane n) (λ i li. omega arith))))
+          λ j lt. ⊎_elim (λ (e : j ≡ n). rw e (one.here ∙ ap (λ (ms : List Message). ms ++ option_to_list (sent n)) (before.there (down_lane n) (λ i li. omega arith))))
           (λ (ne : j ≢ n). one.there (down_lane j) (omega arith) ∙ before.here j (omega arith)) (cases_eq j n);
       there = λ k elsewhere. one.there k (elsewhere n (omega arith)) ∙ before.there k (λ j lt. elsewhere j (omega arith));
     }
@@ -46,7 +43,7 @@ module _ (b : State) (m : Message) (j : ℕ) where
   -- what the hub sends to shim j for m, as a message of kind k, is what the machine sends
   abbrev Agrees : Kind → Type 0
   Agrees k =
-      map notice_of (list_of (sent_by (hub_at b m.line) m j k)) ≡ notices (eqb m.sender j) (request_by m k) (λ x. (hub_at b x).word) (λ x. (hub_at b x).stamp) (λ x. shares (hub_at b x) j)
+      map notice_of (option_to_list (sent_by (hub_at b m.line) m j k)) ≡ notices (eqb m.sender j) (request_by m k) (λ x. (hub_at b x).word) (λ x. (hub_at b x).stamp) (λ x. shares (hub_at b x) j)
 
   -- split on whether j is the sender
   by_sender : (k : Kind) → (eqb m.sender j ≡ true → Agrees k) → (eqb m.sender j ≡ false → Agrees k) → Agrees k

@@ -2,6 +2,7 @@
 use Rattle.std.proofs.Common.{◌≡◌, ℕ, ◌*◌, ◌<◌, Bool, true, false, cond, not, eqb, leb, ◌≢◌, List, ◌∷◌, ◌++◌, map, length, get_or, set, Some, None, Ok, Option, unwrap_or, sym, refl, ap, ◌∙◌, subst, add-one, arith, length-set}
 use mathlib.Core.Bool.{false≢true}
 use mathlib.Core.List.{map-append}
+use Rattle.std.specs.Option.{option_to_list}
 use Rattle.std.proofs.lemmas.Bool.{eqb-true, eq-eqb, ne_eqb, leb-false, not-false, or_parts}
 use Rattle.fabric.proofs.Changes.{changed}
 use Rattle.fabric.specs.Backing.{Backing, Model, take_on}
@@ -23,7 +24,7 @@ use Rattle.board.proofs.Firsts.{first_held}
 use Rattle.run.proofs.Meaning.{request_by, request_of, notice_of, meaning}
 use Rattle.run.proofs.Tables.{Fits, set_each, fits_hub}
 use Rattle.run.proofs.Steps.{Passed, Follows, unless, lanes_fit}
-use Rattle.run.proofs.Notices.{list_of, sent_all, agrees}
+use Rattle.run.proofs.Notices.{sent_all, agrees}
 
 -- what a message is to its own line
 abbrev own_act : Message → Kind → Act
@@ -119,8 +120,8 @@ module _ {ω : Backing} (z : Size) (b : State) (φ : Model ω) (s : ℕ) (fits :
         stamp = each_line (λ a h h'. h'.stamp ≡ stamp_after a h.stamp) after_it.stamp (λ h. refl);
         shares = λ x j. each_line (λ a h h'. shares h' j ≡ shares_after (eqb s j) a (shares h j)) (rw (← own) (after_it.bits j)) (λ h. nothing_kept (eqb s j) (shares h j)) x;
         down =
-            λ j lt. ap (map notice_of) (down.here j lt ∙ ap (λ (ms : List Message). ms ++ list_of (sent_to b m j)) (lane.there (down_lane j) (omega arith)))
-            ∙ map-append notice_of (messages_of φ.lanes (down_lane j)) (list_of (sent_to b m j))
+            λ j lt. ap (map notice_of) (down.here j lt ∙ ap (λ (ms : List Message). ms ++ option_to_list (sent_to b m j)) (lane.there (down_lane j) (omega arith)))
+            ∙ map-append notice_of (messages_of φ.lanes (down_lane j)) (option_to_list (sent_to b m j))
             ∙ ap (λ (ns : List Notice). map notice_of (messages_of φ.lanes (down_lane j)) ++ ns) (rw (← own) (agrees b m j (kind_at m) goes));
         shim = λ j. record { wait = refl; line = λ x. refl };
         other_up = λ j ne. ap (map request_of) (down.there (up_lane j) (λ i lt. omega arith) ∙ lane.there (up_lane j) (omega arith));

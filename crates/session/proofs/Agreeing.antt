@@ -13,7 +13,7 @@ use Rattle.session.specs.Agreement.{complaint_in, complaint_of, Agrees}
 use Rattle.session.specs.Items.{Item, a_flaw}
 use Rattle.session.specs.Playing.{Running, running, flawed, begun, begun_by, past_line, call_made, line_told, items_from}
 use Rattle.verdict.specs.declared.verdict.Flaw.TheVariants.{WrongBoard}
-use Rattle.session.proofs.Ends.{at_end}
+use Rattle.verdict.proofs.Counts.{at_end}
 use Rattle.session.proofs.Reports.{over_quiet}
 
 -- what the reading of lines has for a fault

@@ -1,5 +1,4 @@
 mod Agreeing
-mod Ends
 mod LanesAlone
 mod Opening
 mod Reports

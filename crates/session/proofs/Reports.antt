@@ -11,7 +11,7 @@ use Rattle.sheet.specs.Reading.{next_at, opened, board_end}
 use Rattle.sheet.specs.declared.line.Board.{Board}
 use Rattle.session.specs.Items.{Item, item_bytes}
 use Rattle.session.specs.Playing.{Play, running, flawed, over, begun_at, started, begun_by, line_told, next_item, items_from, printed_by}
-use Rattle.session.proofs.Ends.{at_end}
+use Rattle.verdict.proofs.Counts.{at_end}
 
 -- a bound on the items that are left
 abbrev pub left_of : List ℕ → Play → ℕ

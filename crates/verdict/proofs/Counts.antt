@@ -28,7 +28,7 @@ counting_starts s a = record { lines = length s; enough = omega arith; same = by
     by_entries (Err f) = refl
 
 -- beyond the end there is no line
-at_end : (s : List ℕ) (a : ℕ) → length s ≤ a → next_at s a ≡ Ok None
+pub at_end : (s : List ℕ) (a : ℕ) → length s ≤ a → next_at s a ≡ Ok None
 at_end s a h = ap (λ t. cond t (Ok None) (followed_by (entry_at s a) (λ e. Ok (Some e)))) (le-leb (length s) a h)
 
 -- one step, where the lines do not run out
