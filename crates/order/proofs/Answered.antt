@@ -6,7 +6,7 @@ use Rattle.order.proofs.Machine.{Request, Read, Sync, Notice, says}
 use Rattle.order.proofs.Lists.{Member, Spot}
 use Rattle.order.proofs.Entries.{Entry}
 use Rattle.order.proofs.View.{hub_word, tells, News}
-use Rattle.order.proofs.Traces.{event, then, at_old, at_new, at_lt, OldOrLast, at_snoc}
+use Rattle.order.proofs.Traces.{then, at_old, at_new, at_lt, OldOrLast, at_snoc}
 
 ok_same : {a b : Answer} → ◌≡◌ {A = Outcome} (Ok a) (Ok b) → a ≡ b
 ok_same h = cc
@@ -36,7 +36,7 @@ next_word_old {t = t} c a {i = i} {s = s} h =
     record {
       down = h.down;
       later = h.later;
-      at = at_old t (event c a ∷ []) h.down h.at;
+      at = at_old t ((c, a) ∷ []) h.down h.at;
       first = λ k v l m q. go k v l m (at_snoc t c a q);
     }
   where
@@ -45,9 +45,9 @@ next_word_old {t = t} c a {i = i} {s = s} h =
     go k v l m (inr q) = omega (arith, at_lt t h.down h.at, q.0)
 
 some_end_old : {t : Trace} (c : Call) (a : Outcome) {i s : ℕ} → SomeEnd t i s → SomeEnd (then t c a) i s
-some_end_old {t = t} c a h = record { down = h.down; later = h.later; at = at_old t (event c a ∷ []) h.down h.at }
+some_end_old {t = t} c a h = record { down = h.down; later = h.later; at = at_old t ((c, a) ∷ []) h.down h.at }
 
--- an event that is no down of s that answers a word or an end
+-- a call that is no down of s that answers a word or an end
 abbrev pub NotAnswer : ℕ → Call → Outcome → Type 0
 NotAnswer s c a = ((w : ℕ) → Down s ≡ c → Ok (Value w) ≡ a → ⊥) × (Down s ≡ c → Ok Ended ≡ a → ⊥)
 

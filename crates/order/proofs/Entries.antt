@@ -1,8 +1,8 @@
 -- The calls that shims have sent up: the entries of one shim, and the places of entries.
-use Rattle.std.proofs.Common.{◌≡◌, ℕ, suc, ◌+◌, ◌<◌, ◌≤◌, Bool, true, false, cond, eqb, List, [], ◌∷◌, ◌++◌, length, sym, refl, ap, ◌∙◌, inl, inr, arith}
+use Rattle.std.proofs.Common.{◌≡◌, ℕ, suc, ◌<◌, ◌≤◌, Bool, true, false, cond, eqb, List, [], ◌∷◌, ◌++◌, sym, refl, ap, ◌∙◌, inl, inr, arith}
 use Rattle.std.proofs.lemmas.Bool.{eq-eqb, eqb-true, ne_eqb}
 use Rattle.order.proofs.Machine.{Request, Act, act}
-use Rattle.order.proofs.Lists.{one_if, Member, Spot, onto}
+use Rattle.order.proofs.Lists.{Member, Spot, onto}
 
 -- a call that was sent up: its shim, what was sent, and its place in the trace
 pub record Entry : Type 0 where
@@ -56,10 +56,6 @@ made_by_onto s (e ∷ q) p = made_by_onto s q (e ∷ p) ∙ go (eqb e.who s)
     go : (b : Bool) → onto (made_by s q) (cond b (e ∷ made_by s p) (made_by s p)) ≡ onto (cond b (e ∷ made_by s q) (made_by s q)) (made_by s p)
     go true = refl
     go false = refl
-
-pub made_by_count : (s : ℕ) (e : Entry) (log : List Entry) (b : Bool) → eqb e.who s ≡ b → length (made_by s (e ∷ log)) ≡ length (made_by s log) + one_if b
-made_by_count s e log true q = rw q (omega arith)
-made_by_count s e log false q = rw q (omega arith)
 
 -- an entry of shim s that stands in a list
 pub record FoundBy (s : ℕ) (e : Entry) (l : List Entry) : Type 0 where

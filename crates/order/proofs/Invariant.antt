@@ -6,15 +6,15 @@ use Rattle.std.proofs.lemmas.Bool.{and_right, eqb-true, eqb-false, eq-eqb, ne_eq
 use Rattle.rules.specs.declared.refusal.Refusal.{Refusal}
 use Rattle.rules.specs.declared.kind.Kind.{Kind}
 use Rattle.order.specs.Common.{Call, Load, Store, Fence, Evict, Up, Down, Outcome, Done, Waits, Value, Ended, Handled, Trace, At, shim_of, sends, performs}
-use Rattle.order.proofs.Machine.{Request, Write, Read, Sync, Drop, act, Notice, NotHeld, Settled, Ready, sc, copy, unheld, wait_after, says, request_kind, Board, SameHub}
-use Rattle.order.proofs.Machine.{SameShim, Same, Sends, HubPerforms, Hears, Step, refused, hit, miss, stores, fences, evicts, ups, downs, Fresh, Runs, none_yet, one_more}
+use Rattle.order.proofs.Machine.{Request, Write, Read, Sync, Drop, act, Notice, NotHeld, Settled, Ready, sc, copy, unheld, wait_after, says, request_kind, Board}
+use Rattle.order.proofs.Machine.{SameShim, Same, Sends, HubPerforms, Hears, Step, refused, hit, miss, stores, fences, evicts, ups, downs, Fresh, Runs, none_yet, one_more, alike}
 use Rattle.order.proofs.Lists.{Member, member_append, Spot, spot_member, onto, onto_snoc, onto_member}
 use Rattle.order.proofs.Entries.{Entry, requests, made_by, made_by_other, spot_made_by, AllBy, descending_low}
 use Rattle.order.proofs.Replay.{settled, allowed, is_ready}
 use Rattle.order.proofs.View.{ready_each, word_makes_ready, end_makes_ready}
 use Rattle.order.proofs.Steps.{unheard_own, Position, unheard_calls, calls, calls_is, Follows, HubIs, follows_same, hub_same, with_call, follows_sends, with_event, hub_performs}
 use Rattle.order.proofs.Steps.{follows_other, follows_own, Moved, follows_hears}
-use Rattle.order.proofs.Traces.{event, then, at_old, at_new, at_lt, OldOrLast, at_snoc, of_shim}
+use Rattle.order.proofs.Traces.{then, at_old, at_new, at_lt, OldOrLast, at_snoc, of_shim}
 use Rattle.order.proofs.Sent.{request_of, Sent, sent_still, sent_more, LogMatches, log_still, log_more}
 use Rattle.order.proofs.Answered.{NotAnswer, Answered, answered_still, answered_down}
 use Rattle.order.proofs.Hits.{Hit, HitOk, hit_sent, hit_performed, hit_new}
@@ -40,9 +40,8 @@ pub record IsHit (t : Trace) (h : Hit) : Type 0 where
   pub strength : ℕ
   pub at : At t h.place (Load h.who h.line strength) (Ok (Value h.word))
 
--- what holds of the hub, the log and the loads answered at once (newest first)
-pub record GlobalInvariant (n : ℕ) (t : Trace) (b : Board) (log : List Entry) (hits : List Hit) : Type 0 where
-  pub hub : HubIs b log
+-- what holds of the log and the loads answered at once (newest first)
+pub record GlobalInvariant (n : ℕ) (t : Trace) (log : List Entry) (hits : List Hit) : Type 0 where
   pub known_shim : (e : Entry) (r : List Entry) → Spot e r log → e.who < n
   pub matches : LogMatches t log
   -- the hits are the loads answered at once; a shim's later hit has seen no less of the log
@@ -56,7 +55,8 @@ pub record Invariant (n : ℕ) (t : Trace) (b : Board) : Type 0 where
   pub log : List Entry
   pub view : ℕ → Position
   pub hits : List Hit
-  pub global : GlobalInvariant n t b log hits
+  pub hub : HubIs b log
+  pub global : GlobalInvariant n t log hits
   pub shim : (s : ℕ) → s < n → ShimInvariant t b log hits s (view s)
 
 -- a table with one value changed, and what holds of all its values
@@ -71,25 +71,41 @@ module _ {A : Type 0} where
       go true q = subst (λ (i : ℕ). P i a) (sym (eqb-true j s q)) h
       go false q = k j (eqb-false j s q)
 
--- an event that is no load answered at once
+-- a call that is no load answered at once
 abbrev pub NotHit : Call → Outcome → Type 0
 NotHit c a = (s x g w : ℕ) → Load s x g ≡ c → Ok (Value w) ≡ a → ⊥
 
--- ## a step that changes nothing of a shim, or nothing of the hub
+-- ## a board that is the same to the machine
 
-shim_still : {t : Trace} (c : Call) (a : Outcome) {b b' : Board} {log : List Entry} {hits : List Hit} {s : ℕ} {v : Position}
-    → SameShim b b' s → b'.up s ≡ b.up s → b'.down s ≡ b.down s → of_shim sends s c a ≡ false → NotAnswer s c a
-    → ShimInvariant t b log hits s v → ShimInvariant (then t c a) b' log hits s v
-shim_still c a same u d q na i =
+shim_alike : {t : Trace} {b b' : Board} {log : List Entry} {hits : List Hit} {s : ℕ} {v : Position} → SameShim b b' s → b'.up s ≡ b.up s → b'.down s ≡ b.down s
+    → ShimInvariant t b log hits s v → ShimInvariant t b' log hits s v
+shim_alike same u d i = record { follows = follows_same same u d i.follows; sent = i.sent; answered = i.answered; hits_ok = i.hits_ok }
+
+board_alike : {n : ℕ} {t : Trace} {b b' : Board} → Same b b' → Invariant n t b → Invariant n t b'
+board_alike same i =
     record {
-      follows = follows_same same u d i.follows;
+      log = i.log;
+      view = i.view;
+      hits = i.hits;
+      hub = hub_same same.hub i.hub;
+      global = i.global;
+      shim = λ s l. shim_alike (same.shim s) (same.up s) (same.down s) (i.shim s l);
+    }
+
+-- ## a call that changes nothing of a shim, or nothing of the hub
+
+shim_still : {t : Trace} (c : Call) (a : Outcome) {b : Board} {log : List Entry} {hits : List Hit} {s : ℕ} {v : Position}
+    → of_shim sends s c a ≡ false → NotAnswer s c a → ShimInvariant t b log hits s v → ShimInvariant (then t c a) b log hits s v
+shim_still c a q na i =
+    record {
+      follows = i.follows;
       sent = sent_still c a q i.sent;
       answered = answered_still c a na (λ e m. inl m) i.answered;
       hits_ok = i.hits_ok;
     }
 
 from_old : {t : Trace} (c : Call) (a : Outcome) {h : Hit} → IsHit t h → IsHit (then t c a) h
-from_old {t = t} c a {h = h} k = record { strength = k.strength; at = at_old t (event c a ∷ []) h.place k.at }
+from_old {t = t} c a {h = h} k = record { strength = k.strength; at = at_old t ((c, a) ∷ []) h.place k.at }
 
 into_old : (t : Trace) (c : Call) (a : Outcome) (hits : List Hit) → NotHit c a → ((i s x g w : ℕ) → At t i (Load s x g) (Ok (Value w)) → WasHit i s x w hits)
     → (i s x g w : ℕ) → At (then t c a) i (Load s x g) (Ok (Value w)) → WasHit i s x w hits
@@ -107,11 +123,10 @@ known_old n t c a kn h i c' a' k p = go (at_snoc t c a k)
     go (inl k) = h i c' a' k p
     go (inr k) = rw k.1 (kn (rw k.2 at p))
 
-global_still : {n : ℕ} {t : Trace} (c : Call) (a : Outcome) {b b' : Board} {log : List Entry} {hits : List Hit} → SameHub b b' → performs c a ≡ false
-    → NotHit c a → (is_ok a ≡ true → shim_of c < n) → GlobalInvariant n t b log hits → GlobalInvariant n (then t c a) b' log hits
-global_still {n = n} {t = t} c a {hits = hits} same q nh kn w =
+global_still : {n : ℕ} {t : Trace} (c : Call) (a : Outcome) {log : List Entry} {hits : List Hit} → performs c a ≡ false → NotHit c a
+    → (is_ok a ≡ true → shim_of c < n) → GlobalInvariant n t log hits → GlobalInvariant n (then t c a) log hits
+global_still {n = n} {t = t} c a {hits = hits} q nh kn w =
     record {
-      hub = hub_same same w.hub;
       known_shim = w.known_shim;
       matches = log_still c a q w.matches;
       hit_from = λ h m. from_old c a (w.hit_from h m);
@@ -136,14 +151,15 @@ word_refused w r h = let z : ◌≡◌ {A = ℕ} 0 1 = cc in omega arith
 end_refused : (r : Refusal) → Ok Ended ≡ Err r → ⊥
 end_refused r h = let z : ◌≡◌ {A = ℕ} 0 1 = cc in omega arith
 
-step_refused : {n : ℕ} {t : Trace} {b b' : Board} (c : Call) (r : Refusal) → Same b b' → Invariant n t b → Invariant n (then t c (Err r)) b'
-step_refused c r same i =
+step_refused : {n : ℕ} {t : Trace} {b : Board} (c : Call) (r : Refusal) → Invariant n t b → Invariant n (then t c (Err r)) b
+step_refused c r i =
     record {
       log = i.log;
       view = i.view;
       hits = i.hits;
-      global = global_still c (Err r) same.hub (performs_refused c r) (λ s x g w e k. word_refused w r k) (λ k. absurd (false≢true k)) i.global;
-      shim = λ s l. shim_still c (Err r) (same.shim s) (same.up s) (same.down s) (and_right (eqb (shim_of c) s) (sends c (Err r)) (sends_refused c r))
+      hub = i.hub;
+      global = global_still c (Err r) (performs_refused c r) (λ s x g w e k. word_refused w r k) (λ k. absurd (false≢true k)) i.global;
+      shim = λ s l. shim_still c (Err r) (and_right (eqb (shim_of c) s) (sends c (Err r)) (sends_refused c r))
           ((λ w e k. word_refused w r k), (λ e k. end_refused r k)) (i.shim s l);
     }
 
@@ -166,7 +182,8 @@ step_sends {n = n} {t = t} {b = b} {b' = b'} c a {s = s} o k low makes fits send
       log = i.log;
       view = put i.view s (with_call (i.view s) e);
       hits = i.hits;
-      global = global_still c a makes.hub (sent_not_up c a sends_it) (sent_not_hit c a sends_it) (λ p. rw of_s low) i.global;
+      hub = hub_same makes.hub i.hub;
+      global = global_still c a (sent_not_up c a sends_it) (sent_not_hit c a sends_it) (λ p. rw of_s low) i.global;
       shim = put_all (λ j v. j < n → ShimInvariant (then t c a) b' i.log i.hits j v) i.view s (with_call (i.view s) e) own_shim other;
     }
   where
@@ -206,7 +223,7 @@ step_sends {n = n} {t = t} {b = b} {b' = b'} c a {s = s} o k low makes fits send
     other : (j : ℕ) → j ≢ s → j < n → ShimInvariant (then t c a) b' i.log i.hits j (i.view j)
     other j ne l =
         let elsewhere = and_left (eqb (shim_of c) j) (sends c a) (ne_eqb (shim_of c) j (λ x. ne (sym x ∙ of_s))) in
-        shim_still c a (makes.other j ne) (makes.other_up j ne) (makes.down j) elsewhere (sent_not_answer c a sends_it j) (i.shim j l)
+        shim_alike (makes.other j ne) (makes.other_up j ne) (makes.down j) (shim_still c a elsewhere (sent_not_answer c a sends_it j) (i.shim j l))
 
 -- ## a load answered at once
 
@@ -217,16 +234,16 @@ log_low {n = n} {t = t} i e r k =
     let k' = onto_member e (i.view e.who).pending (made_by e.who i.log) (inr m) in
     descending_low (length t) (calls i.log e.who (i.view e.who)) (i.shim e.who l).sent.descending e k'
 
-step_hit : {n : ℕ} {t : Trace} {b b' : Board} (s x g w : ℕ) → s < n → b.wait s ≡ Ready → copy (b.line s x) ≡ some w → Same b b' → Invariant n t b
-    → Invariant n (then t (Load s x g) (Ok (Value w))) b'
-step_hit {n = n} {t = t} {b = b} {b' = b'} s x g w l rd c same i =
+step_hit : {n : ℕ} {t : Trace} {b : Board} (s x g w : ℕ) → s < n → b.wait s ≡ Ready → copy (b.line s x) ≡ some w → Invariant n t b
+    → Invariant n (then t (Load s x g) (Ok (Value w))) b
+step_hit {n = n} {t = t} {b = b} s x g w l rd c i =
     record {
       log = i.log;
       view = i.view;
       hits = h ∷ i.hits;
+      hub = i.hub;
       global =
           record {
-            hub = hub_same same.hub i.global.hub;
             known_shim = i.global.known_shim;
             matches = log_still (Load s x g) (Ok (Value w)) refl i.global.matches;
             hit_from = from;
@@ -265,18 +282,12 @@ step_hit {n = n} {t = t} {b = b} {b' = b'} s x g w l rd c same i =
         let f = (i.shim s l).follows in
         hit_new i.log s x w (length t) (i.view s) (b.wait s) (b.line s) f.log_is f.all_by f.holds rd c (i.shim s l).sent.descending (log_low i)
 
-    shims : (j : ℕ) → j < n → ShimInvariant (then t (Load s x g) (Ok (Value w))) b' i.log (h ∷ i.hits) j (i.view j)
-    shims j lj =
-        record {
-          follows = old.follows;
-          sent = old.sent;
-          answered = old.answered;
-          hits_ok = ok;
-        }
+    shims : (j : ℕ) → j < n → ShimInvariant (then t (Load s x g) (Ok (Value w))) b i.log (h ∷ i.hits) j (i.view j)
+    shims j lj = record { follows = old.follows; sent = old.sent; answered = old.answered; hits_ok = ok }
       where
-        old : ShimInvariant (then t (Load s x g) (Ok (Value w))) b' i.log i.hits j (i.view j)
+        old : ShimInvariant (then t (Load s x g) (Ok (Value w))) b i.log i.hits j (i.view j)
         old =
-            shim_still (Load s x g) (Ok (Value w)) (same.shim j) (same.up j) (same.down j) (and_right (eqb s j) false refl)
+            shim_still (Load s x g) (Ok (Value w)) (and_right (eqb s j) false refl)
             ((λ u e k. let z : ◌≡◌ {A = ℕ} 0 1 = cc in omega arith), (λ e k. let z : ◌≡◌ {A = ℕ} 0 1 = cc in omega arith)) (i.shim j lj)
 
         ok : (d : Hit) → Member d (h ∷ i.hits) → d.who ≡ j → HitOk i.log (calls i.log j (i.view j)) (length (i.view j).heard) d
@@ -306,9 +317,9 @@ up_by {n = n} {t = t} {b = b} {b' = b'} s k e q i l wh pi ds =
       log = e ∷ i.log;
       view = put others s (with_event v e q);
       hits = i.hits;
+      hub = hub_performs e de i.hub;
       global =
           record {
-            hub = hub_performs e de i.global.hub;
             known_shim = known_shim;
             matches = rw (← wh) (log_more (Handled k) e i.global.matches);
             hit_from = λ h m. from_old (Up s) (Ok (Handled k)) (i.global.hit_from h m);
@@ -344,7 +355,7 @@ up_by {n = n} {t = t} {b = b} {b' = b'} s k e q i l wh pi ds =
     own_shim : s < n → ShimInvariant (then t (Up s) (Ok (Handled k))) b' (e ∷ i.log) i.hits s (with_event v e q)
     own_shim l' =
         record {
-          follows = follows_own e q l wh pi ds i.global.hub si.follows;
+          follows = follows_own e q l wh pi ds i.hub si.follows;
           sent = rw calls_own (sent_still (Up s) (Ok (Handled k)) (and_right (eqb s s) false refl) si.sent);
           answered = answered_still (Up s) (Ok (Handled k)) (none_answer s) (λ d m. inl (rw (unheard_own s v e q wh pi) at m)) si.answered;
           hits_ok = λ h m p. rw calls_own (hit_performed e (si.hits_ok h m p));
@@ -353,7 +364,7 @@ up_by {n = n} {t = t} {b = b} {b' = b'} s k e q i l wh pi ds =
     other : (j : ℕ) → j ≢ s → j < n → ShimInvariant (then t (Up s) (Ok (Handled k))) b' (e ∷ i.log) i.hits j (others j)
     other j ne lj =
         record {
-          follows = follows_other e lj (λ x. ne (x ∙ wh)) de i.global.hub sj.follows;
+          follows = follows_other e lj (λ x. ne (x ∙ wh)) de i.hub sj.follows;
           sent = rw calls_same (sent_still (Up s) (Ok (Handled k)) (and_right (eqb s j) false refl) sj.sent);
           answered = answered_still (Up s) (Ok (Handled k)) (none_answer j) (λ d m. inl (rw unheard_same at m)) sj.answered;
           hits_ok = λ h m p. rw calls_same (hit_performed e (sj.hits_ok h m p));
@@ -384,7 +395,8 @@ down_by {n = n} {t = t} {b = b} {b' = b'} {s = s} m i l hs mv =
       log = i.log;
       view = put i.view s v';
       hits = i.hits;
-      global = global_still (Down s) (Ok (says m)) hs.hub refl (λ j x g w x₁ x₂. let z : ◌≡◌ {A = ℕ} 0 1 = cc in omega arith) (λ p. l) i.global;
+      hub = hub_same hs.hub i.hub;
+      global = global_still (Down s) (Ok (says m)) refl (λ j x g w x₁ x₂. let z : ◌≡◌ {A = ℕ} 0 1 = cc in omega arith) (λ p. l) i.global;
       shim = put_all (λ j u. j < n → ShimInvariant (then t (Down s) (Ok (says m))) b' i.log i.hits j u) i.view s v' own_shim other;
     }
   where
@@ -421,8 +433,9 @@ down_by {n = n} {t = t} {b = b} {b' = b'} {s = s} m i l hs mv =
 
     other : (j : ℕ) → j ≢ s → j < n → ShimInvariant (then t (Down s) (Ok (says m))) b' i.log i.hits j (i.view j)
     other j ne lj =
-        shim_still (Down s) (Ok (says m)) (hs.other j ne) (hs.up j) (hs.other_down j ne) (and_right (eqb s j) false refl)
-        ((λ w x y. ne (let z : Down j ≡ Down s = x in cc)), (λ x y. ne (let z : Down j ≡ Down s = x in cc))) (i.shim j lj)
+        shim_alike (hs.other j ne) (hs.up j) (hs.other_down j ne)
+        (shim_still (Down s) (Ok (says m)) (and_right (eqb s j) false refl)
+        ((λ w x y. ne (let z : Down j ≡ Down s = x in cc)), (λ x y. ne (let z : Down j ≡ Down s = x in cc))) (i.shim j lj))
 
 step_down : {n : ℕ} {t : Trace} {b b' : Board} {s : ℕ} (m : Notice) → s < n → Hears s m b b' → Invariant n t b → Invariant n (then t (Down s) (Ok (says m))) b'
 step_down {s = s} m l hs i = down_by m i l hs (follows_hears hs (i.shim s l).follows)
@@ -455,8 +468,8 @@ fits_drop b s x c t h y = go (eqb y x) refl
     go false q = rw q tt
 
 pub step_any : {n : ℕ} {t : Trace} {b b' : Board} {c : Call} {a : Outcome} → Step n b b' c a → Invariant n t b → Invariant n (then t c a) b'
-step_any (refused c r same) i = step_refused c r same i
-step_any (hit s x g w l rd c same) i = step_hit s x g w l rd c same i
+step_any (refused c r same) i = board_alike same (step_refused c r i)
+step_any (hit s x g w l rd c same) i = board_alike same (step_hit s x g w l rd c i)
 step_any {b = b} (miss s x g l h k) i = step_sends (Load s x g) (Ok Waits) (Read x g) false l k (fits_read b s x g h) refl refl refl i
 step_any {b = b} (stores s x g w l k) i =
     let y = unheld (b.line s x) in
@@ -475,9 +488,9 @@ fresh_invariant n b f =
       log = [];
       view = λ s. record { heard = []; unheard = []; pending = [] };
       hits = [];
+      hub = record { word = f.word; stamp = f.stamp; shares = λ x s. f.shares x s };
       global =
           record {
-            hub = record { word = f.word; stamp = f.stamp; shares = λ x s. f.shares x s };
             known_shim = λ e r k. elim k [ ];
             matches = record { from = λ e r k. elim k [ ]; into = λ u s a k. absurd (nothing_at u (Up s) (Ok a) k); total = λ s. refl; all = refl };
             hit_from = λ h k. elim k [ ];
@@ -504,3 +517,4 @@ fresh_invariant n b f =
 pub invariant : (n : ℕ) {t : Trace} {b : Board} → Runs n t b → Invariant n t b
 invariant n (none_yet {b = b} f) = fresh_invariant n b f
 invariant n (one_more r k) = step_any k (invariant n r)
+invariant n (alike r same) = board_alike same (invariant n r)

@@ -1,5 +1,5 @@
 -- Lists that grow at their front: their members, what stands behind a member (its length is the member's rank), and their suffixes.
-use Rattle.std.proofs.Common.{◌≡◌, ℕ, ◌<◌, ◌≤◌, Bool, true, false, ◌⊎◌, List, [], ◌∷◌, ◌++◌, length, sym, refl, ap, ◌∙◌, inl, inr, arith}
+use Rattle.std.proofs.Common.{◌≡◌, ℕ, ◌+◌, ◌<◌, ◌≤◌, Bool, true, false, cond, ◌⊎◌, List, [], ◌∷◌, ◌++◌, length, sym, refl, ap, ◌∙◌, inl, inr, arith}
 
 abbrev pub one_if : Bool → ℕ
 one_if true = 1
@@ -9,6 +9,11 @@ abbrev pub Compared : ℕ → ℕ → Type 0
 Compared i j = (i ≡ j) ⊎ ((i < j) ⊎ (j < i))
 
 module _ {A : Type 0} where
+  -- b says whether a is kept before l
+  pub length_kept : (b : Bool) (a : A) (l : List A) → length (cond b (a ∷ l) l) ≡ length l + one_if b
+  length_kept true a l = omega arith
+  length_kept false a l = omega arith
+
   abbrev pub Member : A → List A → Type 0
   Member e [] = ⊥
   Member e (a ∷ l) = (e ≡ a) ⊎ Member e l

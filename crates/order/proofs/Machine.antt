@@ -1,6 +1,6 @@
 -- The steps of the hub and the shims, as far as the common order depends on them: the order holds for every run of these steps.
 -- They leave out capacities, limits and the reasons of refusals: a refused call is any call that changes nothing.
-use Rattle.std.proofs.Common.{◌≡◌, ℕ, suc, ◌+◌, ◌<◌, Bool, true, false, cond, ◌||◌, eqb, ltb, ◌≢◌, List, [], ◌∷◌, ◌++◌, Some, Ok, Err}
+use Rattle.std.proofs.Common.{◌≡◌, ℕ, suc, ◌+◌, ◌<◌, Bool, true, false, cond, ◌||◌, eqb, ltb, ◌≢◌, List, [], ◌∷◌, ◌++◌, Ok, Err}
 use mathlib.Core.Option.{Option, none, some}
 use Rattle.rules.specs.declared.strength.Strength.TheVariants.{SeqCst}
 use Rattle.rules.specs.Strengths.{strength_number}
@@ -234,7 +234,9 @@ pub record Fresh (b : Board) : Type 0 where
 -- the trace of calls made one after another on a fresh board of n shims, and the board at its end
 pub data Runs (n : ℕ) : Trace → Board → Type 0 where
   none_yet : {b : Board} → Fresh b → Runs n [] b
-  one_more : {t : Trace} {b b' : Board} {c : Call} {a : Outcome} → Runs n t b → Step n b b' c a → Runs n (t ++ record { call = c; outcome = Some a } ∷ []) b'
+  one_more : {t : Trace} {b b' : Board} {c : Call} {a : Outcome} → Runs n t b → Step n b b' c a → Runs n (t ++ (c, a) ∷ []) b'
+  -- between calls a shim may be claimed or handed back, which the machine does not see
+  alike : {t : Trace} {b b' : Board} → Runs n t b → Same b b' → Runs n t b'
 
 abbrev pub end_of : ℕ → Board → End
 end_of n b =

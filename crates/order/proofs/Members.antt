@@ -1,11 +1,11 @@
 -- The places that stand in the order, and for each the entry or the hit that its call is.
-use Rattle.std.proofs.Common.{◌≡◌, ℕ, zero, suc, ◌<◌, Bool, true, false, ltb, ◌⊎◌, List, [], ◌∷◌, length, is_ok, Some, None, Ok, Err, Option, sym, refl, ap, ◌∙◌, subst, inl, inr, arith}
+use Rattle.std.proofs.Common.{◌≡◌, ℕ, ◌<◌, Bool, true, false, ltb, ◌⊎◌, List, length, is_ok, Some, None, Ok, Err, Option, sym, refl, ap, ◌∙◌, subst, inl, inr, arith}
 use mathlib.Core.Bool.{false≢true}
 use Rattle.std.specs.Prelude.{◌≢◌, slice_get}
 use Rattle.std.proofs.lemmas.Bool.{cases_order, cases_eq, eq-eqb, lt-ltb, ltb-true}
 use Rattle.rules.specs.declared.strength.Strength.TheVariants.{SeqCst}
 use Rattle.rules.specs.Strengths.{strength_number}
-use Rattle.order.specs.Common.{Call, Load, Store, Fence, Down, Outcome, Waits, Value, Ended, Event, Trace, At, shim_of, passes, sends}
+use Rattle.order.specs.Common.{Call, Load, Store, Fence, Down, Outcome, Waits, Value, Ended, Trace, At, shim_of, sends}
 use Rattle.order.specs.Common.{Stored, Wrote, at_once, later, Stands, a_store, a_load, a_fence}
 use Rattle.order.proofs.Machine.{Write, Read, Sync, ForStore, wait_after, Board}
 use Rattle.order.proofs.Lists.{onto, Compared, Member, Spot, spot_member, suffix_spot, member_onto}
@@ -35,22 +35,17 @@ request_store : (c : Call) (k : Bool) (x g : ℕ) (k' : Bool) (w : ℕ) → requ
 request_store (Store s y h v) k x g k' w e = let p : y ≡ x = cc in let q : h ≡ g = cc in let r : v ≡ w = cc in rw (p, q, r)
 request_store c k x g k' w e = let z : ◌≡◌ {A = ℕ} 0 1 = cc in absurd (omega arith)
 
-at_some : (t : Trace) (p : ℕ) → p < length t → (e : Event) × (slice_get t p ≡ Some e)
-at_some [] p l = absurd (omega arith)
-at_some (e ∷ t) zero l = (e, refl)
-at_some (e ∷ t) (suc p) l = at_some t p (omega arith)
-
 module _ {n : ℕ} {t : Trace} {b : Board} (i : Invariant n t b) where
   -- whether shim s has heard of its call at place p
   abbrev pub heard_of : ℕ → ℕ → Bool
   heard_of s p = ltb 0 (find p (i.view s).heard)
 
-  abbrev pub event_stands : Option Event → ℕ → Bool
-  event_stands None p = false
-  event_stands (Some e) p = passes (λ c r. stands c r (heard_of (shim_of c) p)) e
+  abbrev pub call_stands : Option (Call × Outcome) → ℕ → Bool
+  call_stands None p = false
+  call_stands (Some e) p = stands e.0 e.1 (heard_of (shim_of e.0) p)
 
   abbrev pub place_stands : ℕ → Bool
-  place_stands p = event_stands (slice_get t p) p
+  place_stands p = call_stands (slice_get t p) p
 
   pub the_order : List ℕ
   the_order = sort (key i) (chosen place_stands (length t))
@@ -280,15 +275,11 @@ module _ {n : ℕ} {t : Trace} {b : Board} (i : Invariant n t b) where
 
   pub order_only : (p : ℕ) → Member p the_order → (s : ℕ) × Stands t p s
   unfolding the_order
-  order_only p m =
-      let y = chosen_from place_stands (length t) p (member_sort (key i) p (chosen place_stands (length t)) m) in
-      let e = at_some t p y.0 in
-      go e.0 e.0.outcome refl e.1 (rw e.1 at y.1)
+  order_only p m = go (slice_get t p) refl (chosen_from place_stands (length t) p (member_sort (key i) p (chosen place_stands (length t)) m)).1
     where
-      go : (e : Event) (r : Option Outcome) → e.outcome ≡ r → slice_get t p ≡ Some e
-          → passes (λ c r. stands c r (heard_of (shim_of c) p)) e ≡ true → (s : ℕ) × Stands t p s
-      go e (Some r) q h k = stands_is p e.call r (h ∙ ap (λ (o : Option Outcome). Some (record { call = e.call; outcome = o })) q) (rw q at k)
-      go e None q h k = absurd (false≢true (rw q at k))
+      go : (e : Option (Call × Outcome)) → slice_get t p ≡ e → call_stands e p ≡ true → (s : ℕ) × Stands t p s
+      go None h k = absurd (false≢true k)
+      go (Some e) h k = stands_is p e.0 e.1 h k
 
   pub order_all : (p s : ℕ) → Stands t p s → Member p the_order
   order_all p s (a_store x g h) = (store_at p s x g h).member_order

@@ -13,7 +13,7 @@ use Rattle.order.proofs.Entries.{Entry, acts, requests, made_by}
 use Rattle.order.proofs.Replay.{replay, is_ready, Awaited}
 use Rattle.order.proofs.View.{hub_word, hub_stamp, hub_shares, hub_view, all_silent}
 use Rattle.order.proofs.Sort.{Lex, lex_before, before_lex, rising_once, member_contained, contained_member}
-use Rattle.order.proofs.Traces.{at_moved, tally, of_shim, count_tally, tally_less}
+use Rattle.order.proofs.Traces.{at_moved, tally, of_shim, tally_less}
 use Rattle.order.proofs.Writes.{EntryWrites, read_writes_not, copy_view, WordFrom, last_write}
 use Rattle.order.proofs.Hits.{Hit, OwnStore, HubStore, HitOk}
 use Rattle.order.proofs.Invariant.{Invariant, invariant}
@@ -55,7 +55,7 @@ module _ {n : ℕ} {t : Trace} {b : Board} (i : Invariant n t b) where
           let f = (i.shim s l).sent.from q.entry q.older q.spot in
           let c : tally (of_shim sends s) t p ≡ length q.older = subst (λ (y : ℕ). tally (of_shim sends s) t y ≡ length q.older) q.place_is f.own_rank in
           let ranks : count performs s t u ≡ count sends s t p = rw h.own h.same_rank in
-          let x : length (made_by s r) ≡ length q.older = sym own_rank ∙ sym (count_tally performs s t u) ∙ ranks ∙ count_tally sends s t p ∙ c in
+          let x : length (made_by s r) ≡ length q.older = sym own_rank ∙ ranks ∙ c in
           let same : e ≡ q.entry = spot_depth e q.entry (made_by s r) q.older (calls_of i s) (log_call i s e r k w) q.spot x in
           record { entry = e; older = r; spot = k; place_is = ap (λ (y : Entry). y.place) same ∙ q.place_is; rank = rank }
 
@@ -74,7 +74,7 @@ module _ {n : ℕ} {t : Trace} {b : Board} (i : Invariant n t b) where
           at = f.at;
           is_sent = f.sends_it;
           own = f.shim;
-          same_rank = count_tally performs e.who t u.up ∙ u.own_rank ∙ sym f.own_rank ∙ sym (count_tally sends e.who t e.place);
+          same_rank = u.own_rank ∙ sym f.own_rank;
         },
       )
 
@@ -223,7 +223,7 @@ module _ {n : ℕ} {t : Trace} {b : Board} (i : Invariant n t b) where
           go c (waiting m) = absurd (let y : Member c.entry [] = rw (quiet_pending quiet s c.low) at m in y)
 
   words : (end_of n b).Quiet → (x w : ℕ) → b.word x ≡ w → Last t o (λ k s. ⊤) x w
-  words quiet x w h = quiet_last quiet x w (sym h ∙ i.global.hub.word x)
+  words quiet x w h = quiet_last quiet x w (sym h ∙ i.hub.word x)
 
   copies : (end_of n b).Quiet → (s x w : ℕ) → (s < n) × copy (b.line s x) ≡ some w → Last t o (λ k s. ⊤) x w
   copies quiet s x w (l, c) =

@@ -3,9 +3,9 @@ use Rattle.std.proofs.Common.{◌≡◌, ℕ, ◌≤◌, Bool, true, false, ◌&
 use Rattle.std.proofs.lemmas.Bool.{and_right, eq-eqb, and_from}
 use Rattle.order.specs.Common.{Call, Load, Store, Fence, Evict, Up, Down, Answer, Outcome, Trace, At, shim_of, sends, performs}
 use Rattle.order.proofs.Machine.{Request, Write, Read, Sync, Drop}
-use Rattle.order.proofs.Lists.{Spot}
-use Rattle.order.proofs.Entries.{Entry, made_by, made_by_count, Descending, descending_more}
-use Rattle.order.proofs.Traces.{event, then, at_old, at_new, at_lt, OldOrLast, at_snoc, length_then, tally, of_shim, tally_old, tally_new}
+use Rattle.order.proofs.Lists.{length_kept, Spot}
+use Rattle.order.proofs.Entries.{Entry, made_by, Descending, descending_more}
+use Rattle.order.proofs.Traces.{then, at_old, at_new, at_lt, OldOrLast, at_snoc, length_then, tally, of_shim, tally_old, tally_new}
 
 -- what a call sends up (last: whether it asks to be synchronised); ups and downs send nothing
 abbrev pub request_of : Call → Bool → Request
@@ -49,14 +49,14 @@ is_sent_old {t = t} c a {s = s} {e = e} h =
       call = h.call;
       outcome = h.outcome;
       synchronise = h.synchronise;
-      at = at_old t (event c a ∷ []) e.place h.at;
+      at = at_old t ((c, a) ∷ []) e.place h.at;
       sends_it = h.sends_it;
       shim = h.shim;
       request_is = h.request_is;
-      own_rank = tally_old (of_shim sends s) t (event c a ∷ []) e.place (omega (arith, at_lt t e.place h.at)) ∙ h.own_rank;
+      own_rank = tally_old (of_shim sends s) t ((c, a) ∷ []) e.place (omega (arith, at_lt t e.place h.at)) ∙ h.own_rank;
     }
 
--- an event that is no call sent up by s
+-- a call that s does not send up
 pub sent_still : {t : Trace} (c : Call) (a : Outcome) {s : ℕ} {l : List Entry} → of_shim sends s c a ≡ false → Sent t s l → Sent (then t c a) s l
 sent_still {t = t} c a {s = s} {l = l} q h =
     record {
@@ -93,7 +93,7 @@ sent_more {t = t} c a {s = s} {l = l} e k p j i o h =
           sends_it = p;
           shim = j;
           request_is = o;
-          own_rank = rw i (tally_old (of_shim sends s) t (event c a ∷ []) (length t) (omega arith) ∙ h.total);
+          own_rank = rw i (tally_old (of_shim sends s) t ((c, a) ∷ []) (length t) (omega arith) ∙ h.total);
         }
 
     back : (d : Entry) (r : List Entry) → Spot d r (e ∷ l) → IsSent (then t c a) s d r
@@ -140,9 +140,9 @@ is_logged_old {t = t} c a {e = e} h =
     record {
       up = h.up;
       answer = h.answer;
-      at = at_old t (event c a ∷ []) h.up h.at;
-      own_rank = tally_old (of_shim performs e.who) t (event c a ∷ []) h.up l ∙ h.own_rank;
-      rank = tally_old performs t (event c a ∷ []) h.up l ∙ h.rank;
+      at = at_old t ((c, a) ∷ []) h.up h.at;
+      own_rank = tally_old (of_shim performs e.who) t ((c, a) ∷ []) h.up l ∙ h.own_rank;
+      rank = tally_old performs t ((c, a) ∷ []) h.up l ∙ h.rank;
     }
 
 was_logged_old : {t : Trace} (c : Call) (a : Outcome) {u s : ℕ} {a' : Answer} {log : List Entry} → At t u (Up s) (Ok a') → WasLogged t u s log → WasLogged (then t c a) u s log
@@ -153,8 +153,8 @@ was_logged_old {t = t} c a {u = u} {s = s} k h =
       older = h.older;
       spot = h.spot;
       who_is = h.who_is;
-      own_rank = tally_old (of_shim performs s) t (event c a ∷ []) u l ∙ h.own_rank;
-      rank = tally_old performs t (event c a ∷ []) u l ∙ h.rank;
+      own_rank = tally_old (of_shim performs s) t ((c, a) ∷ []) u l ∙ h.own_rank;
+      rank = tally_old performs t ((c, a) ∷ []) u l ∙ h.rank;
     }
 
 pub log_still : {t : Trace} (c : Call) (a : Outcome) {log : List Entry} → performs c a ≡ false → LogMatches t log → LogMatches (then t c a) log
@@ -183,7 +183,7 @@ log_more {t = t} a {log = log} e h =
       from = back;
       into = λ u s a' k. go u s a' (at_snoc t (Up e.who) (Ok a) k);
       total = λ s. rw length_then (tally_new (of_shim performs s) t (Up e.who) (Ok a)
-          ∙ rw (and_true (eqb e.who s)) (omega (arith, h.total s, made_by_count s e log (eqb e.who s) refl)));
+          ∙ rw (and_true (eqb e.who s)) (omega (arith, h.total s, length_kept (eqb e.who s) e (made_by s log))));
       all = rw length_then (tally_new performs t (Up e.who) (Ok a) ∙ omega (arith, h.all));
     }
   where
@@ -191,10 +191,10 @@ log_more {t = t} a {log = log} e h =
     later = then t (Up e.who) (Ok a)
 
     own_ranked : tally (of_shim performs e.who) later (length t) ≡ length (made_by e.who log)
-    own_ranked = tally_old (of_shim performs e.who) t (event (Up e.who) (Ok a) ∷ []) (length t) (omega arith) ∙ h.total e.who
+    own_ranked = tally_old (of_shim performs e.who) t ((Up e.who, Ok a) ∷ []) (length t) (omega arith) ∙ h.total e.who
 
     ranked : tally performs later (length t) ≡ length log
-    ranked = tally_old performs t (event (Up e.who) (Ok a) ∷ []) (length t) (omega arith) ∙ h.all
+    ranked = tally_old performs t ((Up e.who, Ok a) ∷ []) (length t) (omega arith) ∙ h.all
 
     back : (d : Entry) (r : List Entry) → Spot d r (e ∷ log) → IsLogged later d r
     back d r (inl m) = rw (m.0, m.1) record { up = length t; answer = a; at = at_new t (Up e.who) (Ok a); own_rank = own_ranked; rank = ranked }

@@ -1,6 +1,6 @@
 -- The common order of a run: what it is. The law is the record `CommonOrder`, at the end. It is read from the calls and what the
 -- board said to each, and, where no message waits at the end, from the hub's words and the copies held then.
-use Rattle.std.specs.Prelude.{◌≡◌, ℕ, ◌<◌, Bool, true, false, ◌&&◌, ◌≢◌, ◌⊎◌, List, length, take, filter, slice_get, Contains, Some, None, Ok, Result, ◌==◌, ⊤}
+use Rattle.std.specs.Prelude.{◌≡◌, ℕ, ◌<◌, Bool, true, false, ◌&&◌, ◌≢◌, ◌⊎◌, List, length, take, filter, slice_get, Contains, Some, Ok, Result, ◌==◌, ⊤}
 use Rattle.rules.specs.declared.strength.Strength.TheVariants.{SeqCst}
 use Rattle.rules.specs.Strengths.{strength_number}
 pub use Rattle.rules.specs.declared.call.Call.{Call}
@@ -8,7 +8,6 @@ pub use Rattle.rules.specs.declared.call.Call.TheVariants.{Load, Store, Fence, E
 pub use Rattle.rules.specs.declared.answer.Answer.{Answer}
 pub use Rattle.rules.specs.declared.answer.Answer.TheVariants.{Done, Waits, Value, Ended, Handled}
 pub use Rattle.rules.specs.declared.refusal.Refusal.{Refusal}
-pub use Rattle.rules.specs.declared.event.Event.{Event}
 
 -- What the board says to a call: an answer where it accepts it, or a refusal.
 abbrev pub Outcome : Type 0
@@ -16,11 +15,11 @@ Outcome = Result Answer Refusal
 
 -- The trace of a run: its calls as they follow, with what the board said to each. A place is an index in it.
 abbrev pub Trace : Type 0
-Trace = List Event
+Trace = List (Call × Outcome)
 
 -- the call at place i is c, and the board said r to it
 abbrev pub At : Trace → ℕ → Call → Outcome → Type 0
-At t i c r = slice_get t i ≡ Some (record { call = c; outcome = Some r })
+At t i c r = slice_get t i ≡ Some (c, r)
 
 -- a call is made at one shim, and counts as a call of that shim's chip
 abbrev pub shim_of : Call → ℕ
@@ -46,13 +45,9 @@ abbrev pub performs : Call → Outcome → Bool
 performs (Up s) (Ok a) = true
 performs c r = false
 
--- an event passes a test where its call does, with what the board said to it
-abbrev pub passes : (Call → Outcome → Bool) → Event → Bool
-passes test e = elim e.outcome [ Some r ↦ test e.call r | None ↦ false ]
-
--- how many of the first k events are of shim s and pass the test
+-- how many of the first k calls are of shim s and pass the test
 abbrev pub count : (Call → Outcome → Bool) → ℕ → Trace → ℕ → ℕ
-count test s t k = length (filter (λ e. shim_of e.call == s && passes test e) (take k t))
+count test s t k = length (filter (λ e. shim_of e.0 == s && test e.0 e.1) (take k t))
 
 -- the up at place u performs the call at place i: the k-th accepted up of a shim performs the k-th call that it sent up
 pub record Performs (t : Trace) (u i : ℕ) : Type 0 where

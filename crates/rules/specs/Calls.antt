@@ -1,15 +1,20 @@
--- The rule of each call, and of a list of calls.
-use Rattle.std.specs.Prelude.{List, [], ◌∷◌, Some}
+-- The rule of each call, of each action, and of a list of actions.
+use Rattle.std.specs.Prelude.{List, [], ◌∷◌, Some, Ok}
 use Rattle.fabric.specs.Backing.{Backing, Model}
+use Rattle.rules.specs.declared.action.Action.{Action}
+use Rattle.rules.specs.declared.action.Action.TheVariants.{Make, Claim, HandBack}
+use Rattle.rules.specs.declared.answer.Answer.TheVariants.{Done}
 use Rattle.rules.specs.declared.call.Call.{Call}
 use Rattle.rules.specs.declared.call.Call.TheVariants.{Load, Store, Fence, Evict, Up, Down}
 use Rattle.rules.specs.declared.event.Event.{Event}
 use Rattle.rules.specs.declared.state.Size.{Size}
 use Rattle.rules.specs.declared.state.State.{State}
-use Rattle.rules.specs.Checks.{After}
+use Rattle.rules.specs.Checks.{After, after}
+use Rattle.rules.specs.Claim.{claim_answer, after_claim}
 use Rattle.rules.specs.Down.{down_rule}
 use Rattle.rules.specs.Evict.{evict_rule}
 use Rattle.rules.specs.Fence.{fence_rule}
+use Rattle.rules.specs.HandBack.{after_hand_back}
 use Rattle.rules.specs.Load.{load_rule}
 use Rattle.rules.specs.Store.{store_rule}
 use Rattle.rules.specs.Up.{up_rule}
@@ -22,7 +27,13 @@ call_rule ω z b φ (Evict s x) = evict_rule ω z b φ s x
 call_rule ω z b φ (Up s) = up_rule ω z b φ s
 call_rule ω z b φ (Down s) = down_rule ω z b φ s
 
--- what a list of calls leaves: each call with what the board said to it, the board's state, the fabric
+-- a call; or a claim or a handing back, which do not touch the fabric
+abbrev pub action_rule : (ω : Backing) → Size → State → Model ω → Action → After ω
+action_rule ω z b φ (Make c) = call_rule ω z b φ c
+action_rule ω z b φ (Claim s) = after (claim_answer z b s) (after_claim z b s) φ
+action_rule ω z b φ (HandBack s) = after (Ok Done) (after_hand_back z b s) φ
+
+-- what a list of actions leaves: each with what the board said to it, the board's state, the fabric
 pub record Run (ω : Backing) : Type 0 where
   pub events : List Event
   pub state : State
@@ -31,10 +42,10 @@ pub record Run (ω : Backing) : Type 0 where
 abbrev pub ran : {ω : Backing} → List Event → State → Model ω → Run ω
 ran es b φ = record { events = es; state = b; fabric = φ }
 
--- one call after the other, each on what the one before it left
+-- one action after the other, each on what the one before it left
 abbrev pub run_rule : (ω : Backing) → Size → State → Model ω → List Event → Run ω
 run_rule ω z b φ [] = ran [] b φ
 run_rule ω z b φ (e ∷ es) =
-    let a = call_rule ω z b φ e.call in
+    let a = action_rule ω z b φ e.action in
     let rest = run_rule ω z a.state a.fabric es in
-    ran (record { call = e.call; outcome = Some a.outcome } ∷ rest.events) rest.state rest.fabric
+    ran (record { action = e.action; outcome = Some a.outcome } ∷ rest.events) rest.state rest.fabric

@@ -6,12 +6,12 @@ use Rattle.fabric.specs.declared.message.Message.{Message}
 use Rattle.fabric.specs.declared.fault.FabricFault.TheVariants.{Full, Empty}
 use Rattle.rules.specs.declared.answer.Answer.{Answer}
 use Rattle.rules.specs.declared.refusal.Refusal.{Refusal}
-use Rattle.rules.specs.declared.refusal.Refusal.TheVariants.{WrongSize, NoShim, NoLine, WrongStrength, ShimWaits, AtLimit, NotHeld, Unsettled, Fabric, Foreign}
+use Rattle.rules.specs.declared.refusal.Refusal.TheVariants.{WrongSize, NoShim, NoLine, WrongStrength, ShimWaits, AtLimit, NotHeld, Unsettled, Fabric, Foreign, Claimed, NotWaiting}
 use Rattle.rules.specs.declared.state.Size.{Size}
 use Rattle.rules.specs.declared.state.State.{State}
 use Rattle.rules.specs.declared.strength.Access.{Access}
 use Rattle.rules.specs.Refusals.{Check, refuse_if}
-use Rattle.rules.specs.State.{stamp_limit, wait_at, line_at, is_ready, is_held, is_unsettled, stamp_of}
+use Rattle.rules.specs.State.{stamp_limit, wait_at, line_at, is_claimed, is_ready, is_held, is_unsettled, stamp_of}
 use Rattle.rules.specs.Strengths.{fitting}
 
 -- what a call leaves: what the board says, the board's state, the fabric
@@ -83,6 +83,14 @@ first_on lanes k = first_message (messages_of lanes k)
 -- 12: the first message of the lane is foreign
 abbrev pub foreign_on : ℕ → Bool → Check
 foreign_on k foreign = refuse_if foreign (Foreign k)
+
+-- 13: a chip has claimed the shim
+abbrev pub shim_claimed : State → ℕ → Check
+shim_claimed b s = refuse_if (is_claimed b s) Claimed
+
+-- 14: the shim waits for nothing
+abbrev pub shim_ready : State → ℕ → Check
+shim_ready b s = refuse_if (is_ready (wait_at b s)) NotWaiting
 
 -- 1, 3 and 11, by which a call is refused that needs the first message of lane k of shim s
 abbrev pub message_checks : Size → List Lane → ℕ → ℕ → List Check

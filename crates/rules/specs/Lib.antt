@@ -1,8 +1,10 @@
 pub mod Calls
 pub mod Checks
+pub mod Claim
 pub mod Down
 pub mod Evict
 pub mod Fence
+pub mod HandBack
 pub mod Kinds
 pub mod Load
 pub mod Make
@@ -12,5 +14,6 @@ pub mod Sizes
 pub mod State
 pub mod Store
 pub mod Strengths
+pub mod Turn
 pub mod Up
 pub mod Words

@@ -3,7 +3,7 @@ use Rattle.std.specs.Prelude.{ℕ, Bool, cond, List, [], ◌∷◌, Ok, Err, Res
 use Rattle.fabric.specs.declared.fault.FabricFault.TheVariants.{NoLane, Full, Empty}
 use Rattle.fabric.specs.Fault.{fault_number}
 use Rattle.rules.specs.declared.refusal.Refusal.{Refusal}
-use Rattle.rules.specs.declared.refusal.Refusal.TheVariants.{WrongSize, MessageWaits, NoShim, NoLine, WrongStrength, ShimWaits, NotHeld, Unsettled, AtLimit, Fabric, Foreign}
+use Rattle.rules.specs.declared.refusal.Refusal.TheVariants.{WrongSize, MessageWaits, NoShim, NoLine, WrongStrength, ShimWaits, NotHeld, Unsettled, AtLimit, Fabric, Foreign, Claimed, NotWaiting}
 
 -- what is told of each refusal: its number, and then what it carries, the fabric's own number and the lane, or the lane. A fabric's 21
 -- would be a wrong lane count, and no call comes so far
@@ -21,6 +21,8 @@ refusal_told (Fabric (NoLane lane)) = 1 ∷ []
 refusal_told (Fabric (Full lane)) = 10 ∷ fault_number (Full lane) ∷ lane ∷ []
 refusal_told (Fabric (Empty lane)) = 11 ∷ fault_number (Empty lane) ∷ lane ∷ []
 refusal_told (Foreign lane) = 12 ∷ lane ∷ []
+refusal_told Claimed = 13 ∷ []
+refusal_told NotWaiting = 14 ∷ []
 
 abbrev pub refusal_number : Refusal → ℕ
 refusal_number e = slice_index (refusal_told e) 0

@@ -61,6 +61,9 @@ shim_at b s = slice_index_or b.shims s (record { wait = None; lines = []; claime
 abbrev pub wait_at : State → ℕ → Option Wait
 wait_at b s = (shim_at b s).wait
 
+abbrev pub is_claimed : State → ℕ → Bool
+is_claimed b s = (shim_at b s).claimed
+
 abbrev pub line_at : State → ℕ → ℕ → Option Held
 line_at b s x = slice_index_or (shim_at b s).lines x None
 
@@ -70,7 +73,7 @@ hub_at b x = slice_index_or b.hub x (record { word = 0; stamp = 0; sharers = [] 
 abbrev pub shares : HubLine → ℕ → Bool
 shares h s = slice_index_or h.sharers s false
 
--- the state with another shim, another wait, another line of a shim, another line of the hub, one more store
+-- the state with another shim, another wait, another line of a shim, a shim claimed or not, another line of the hub, one more store
 abbrev pub with_shim : State → ℕ → Shim → State
 with_shim b s shim = record b { shims = slice_set b.shims s shim }
 
@@ -79,6 +82,9 @@ with_wait b s w = with_shim b s (record (shim_at b s) { wait = w })
 
 abbrev pub with_line : State → ℕ → ℕ → Option Held → State
 with_line b s x l = with_shim b s (record (shim_at b s) { lines = slice_set (shim_at b s).lines x l })
+
+abbrev pub with_claim : State → ℕ → Bool → State
+with_claim b s t = with_shim b s (record (shim_at b s) { claimed = t })
 
 abbrev pub with_hub : State → ℕ → HubLine → State
 with_hub b x h = record b { hub = slice_set b.hub x h }

@@ -1,9 +1,9 @@
+use crate::action::Action;
 use crate::answer::Outcome;
-use crate::call::Call;
 
-// A call to be made, and the place for what the board says to it.
+// What a list asks of a board, and the place for what the board says to it.
 #[derive(Clone, Copy)]
 pub struct Event {
-    pub call: Call,
+    pub action: Action,
     pub outcome: Option<Outcome>,
 }

@@ -2,6 +2,7 @@
 // The rules of the calls are definitions: specs/ has a file for each.
 #![tactic(auto)]
 
+mod action;
 mod answer;
 mod call;
 mod event;
@@ -13,6 +14,7 @@ mod state;
 mod strength;
 mod unknown;
 
+pub use action::Action;
 pub use answer::{Answer, Outcome};
 pub use call::Call;
 pub use event::Event;

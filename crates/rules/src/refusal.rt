@@ -28,6 +28,10 @@ pub enum Refusal {
     Fabric(FabricFault),
     // The first message of this lane is foreign: docs/PROTOCOL.md lists what is.
     Foreign(usize),
+    // A chip has claimed the shim.
+    Claimed,
+    // The shim waits for nothing, so no turn can end a wait.
+    NotWaiting,
 }
 
 impl From<FabricFault> for Refusal {
@@ -58,6 +62,8 @@ impl From<Refusal> for u8 {
             Refusal::Fabric(FabricFault::Full(_)) => 10,
             Refusal::Fabric(FabricFault::Empty(_)) => 11,
             Refusal::Foreign(_) => 12,
+            Refusal::Claimed => 13,
+            Refusal::NotWaiting => 14,
         }
     }
 }

@@ -23,7 +23,8 @@ use Rattle.order.proofs.Machine.{Line, Settled, Ready, updated, heard_line, hear
 use Rattle.board.proofs.Firsts.{first_held}
 use Rattle.run.proofs.Meaning.{wait_of, line_held, line_of, notice_by, request_of, notice_of, meaning}
 use Rattle.run.proofs.Tables.{Fits, set_each, shim_here, shim_twice, fits_shim}
-use Rattle.run.proofs.Steps.{Passed, Follows, unless, lanes_fit, other_shim}
+use Rattle.rules.proofs.Passed.{Passed}
+use Rattle.run.proofs.Steps.{Follows, unless, lanes_fit, other_shim}
 
 -- a message of kind k does to a shim what the machine says
 record Heard (w : Option rules.Wait) (l : Option Held) (m : Message) (k : Kind) : Type 0 where

@@ -6,5 +6,6 @@ mod Storing
 mod Hearing
 mod Notices
 mod Performing
+mod Claiming
 mod Runs
 mod Loop

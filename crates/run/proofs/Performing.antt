@@ -23,7 +23,8 @@ use Rattle.order.proofs.Machine.{Act, Writes, Reads, Drops, Nothing, act, Notice
 use Rattle.board.proofs.Firsts.{first_held}
 use Rattle.run.proofs.Meaning.{request_by, request_of, notice_of, meaning}
 use Rattle.run.proofs.Tables.{Fits, set_each, fits_hub}
-use Rattle.run.proofs.Steps.{Passed, Follows, unless, lanes_fit}
+use Rattle.rules.proofs.Passed.{Passed}
+use Rattle.run.proofs.Steps.{Follows, unless, lanes_fit}
 use Rattle.run.proofs.Notices.{sent_all, agrees}
 
 -- what a message is to its own line

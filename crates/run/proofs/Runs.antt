@@ -6,26 +6,32 @@ use Rattle.std.proofs.lemmas.List.{get_or_past, nil_from_length}
 use Rattle.std.proofs.lemmas.Bool.{cases_lt, ltb-false, leb-true, not-false, or_parts, and_parts}
 use Rattle.fabric.specs.Backing.{Backing, Model}
 use Rattle.fabric.specs.Lanes.{Lane, no_lane, messages_of, shim_limit}
-use Rattle.rules.specs.Calls.{call_rule, run_rule}
+use Rattle.rules.specs.Calls.{call_rule, action_rule, run_rule}
+use Rattle.rules.specs.Checks.{After}
 use Rattle.rules.specs.Make.{any_waits, make_checks, make_rule}
 use Rattle.rules.specs.Refusals.{Check, passing}
 use Rattle.rules.specs.Sizes.{line_limit}
 use Rattle.rules.specs.State.{up_lane, down_lane, line_at, fresh_hub_line, fresh_shim, fresh_state}
+use Rattle.rules.specs.declared.action.Action.{Action}
+use Rattle.rules.specs.declared.action.Action.TheVariants.{Make, Claim, HandBack}
+use Rattle.rules.specs.declared.event.Event.{Event}
 use Rattle.rules.specs.declared.state.HubLine.{HubLine}
 use Rattle.rules.specs.declared.state.Shim.{Shim}
 use Rattle.rules.specs.declared.state.Size.{Size}
 use Rattle.rules.specs.declared.state.State.{State}
-use Rattle.order.specs.Common.{Call, Load, Store, Fence, Evict, Up, Down, Event, Trace, HasCommonOrder}
-use Rattle.order.proofs.Machine.{NotHeld, Ready, Fresh, Runs, none_yet, one_more}
+use Rattle.order.specs.Common.{Call, Load, Store, Fence, Evict, Up, Down, Trace, HasCommonOrder}
+use Rattle.order.proofs.Machine.{NotHeld, Ready, Fresh, Runs, none_yet, one_more, alike}
 use Rattle.order.proofs.Order.{order_stands}
-use Rattle.run.specs.Ends.{end_of}
+use Rattle.run.specs.Ends.{call_told, calls_of, end_of}
 use Rattle.run.proofs.Meaning.{wait_of, line_of, copy_is, request_of, notice_of, meaning}
 use Rattle.run.proofs.Tables.{Fits}
-use Rattle.run.proofs.Steps.{Passed, Follows, lanes_fit}
+use Rattle.rules.proofs.Passed.{Passed}
+use Rattle.run.proofs.Steps.{Follows, lanes_fit}
 use Rattle.run.proofs.Sending.{load_follows, fence_follows, evict_follows}
 use Rattle.run.proofs.Storing.{store_follows}
 use Rattle.run.proofs.Hearing.{down_follows}
 use Rattle.run.proofs.Performing.{up_follows}
+use Rattle.run.proofs.Claiming.{claim_alike, hand_back_alike}
 
 -- A RUN
 
@@ -37,14 +43,23 @@ call_follows z b φ (Evict s x) fits = evict_follows z b φ s fits x
 call_follows z b φ (Up s) fits = up_follows z b φ s fits
 call_follows z b φ (Down s) fits = down_follows z b φ s fits
 
--- the events es made after the trace t
+-- what an action leaves after the trace t: a call stands at the trace's end then, and a claim or a handing back does not
+abbrev RunsOn : {ω : Backing} → Size → Trace → Action → After ω → Type 0
+RunsOn z t a r = Fits z r.state × Runs z.shims (t ++ call_told a (Some r.outcome)) (meaning r.state r.fabric.lanes)
+
+action_runs : {ω : Backing} (z : Size) (b : State) (φ : Model ω) (a : Action) {t : Trace} → Fits z b → Runs z.shims t (meaning b φ.lanes) → RunsOn z t a (action_rule ω z b φ a)
+action_runs z b φ (Make c) fits r = let k = call_follows z b φ c fits in (k.fits, one_more r k.step)
+action_runs z b φ (Claim s) fits r = let k = claim_alike z b φ.lanes s fits in (k.0, rw append-nil (alike r k.1))
+action_runs z b φ (HandBack s) fits r = let k = hand_back_alike z b φ.lanes s fits in (k.0, rw append-nil (alike r k.1))
+
+-- the events es after the trace t
 runs_on : (ω : Backing) (z : Size) (es : List Event) (t : Trace) (b : State) (φ : Model ω) → Fits z b → Runs z.shims t (meaning b φ.lanes)
-    → Runs z.shims (t ++ (run_rule ω z b φ es).events) (meaning (run_rule ω z b φ es).state (run_rule ω z b φ es).fabric.lanes)
+    → Runs z.shims (t ++ calls_of (run_rule ω z b φ es).events) (meaning (run_rule ω z b φ es).state (run_rule ω z b φ es).fabric.lanes)
 runs_on ω z [] t b φ fits r = rw append-nil r
 runs_on ω z (e ∷ es) t b φ fits r =
-    let a = call_rule ω z b φ e.call in
-    let k = call_follows z b φ e.call fits in
-    let rest = runs_on ω z es (t ++ record { call = e.call; outcome = Some a.outcome } ∷ []) a.state a.fabric k.fits (one_more r k.step) in
+    let a = action_rule ω z b φ e.action in
+    let k = action_runs z b φ e.action fits r in
+    let rest = runs_on ω z es (t ++ call_told e.action (Some a.outcome)) a.state a.fabric k.0 k.1 in
     rw append_assoc at rest
 
 -- THE BOARD AT FIRST
@@ -121,9 +136,9 @@ runs_ordered z t b lanes r =
     quiet : ((k : ℕ) → messages_of lanes k ≡ []) → (s : ℕ) → s < z.shims → (map request_of (messages_of lanes (up_lane s)) ≡ []) × (map notice_of (messages_of lanes (down_lane s)) ≡ [])
     quiet q s lt = (ap (map request_of) (q (up_lane s)), ap (map notice_of) (q (down_lane s)))
 
--- the events es, made over the fabric on a board of this size and state, have a common order
+-- the calls of the events es, done over the fabric on a board of this size and state, have a common order
 abbrev pub OrderOf : (ω : Backing) → Model ω → List Event → Size × State → Type 0
-OrderOf ω φ es (z, b) = let r = run_rule ω z b φ es in HasCommonOrder r.events (end_of z r.state r.fabric.lanes)
+OrderOf ω φ es (z, b) = let r = run_rule ω z b φ es in HasCommonOrder (calls_of r.events) (end_of z r.state r.fabric.lanes)
 
 pub made_ordered : (ω : Backing) (φ : Model ω) (n m : ℕ) (es : List Event) (made : Size × State) → Ok made ≡ make_rule φ.lanes n m → OrderOf ω φ es made
 made_ordered ω φ n m es made h = go (passed_ok (make_checks φ.lanes n m) (z, fresh_state) made h)
@@ -138,4 +153,4 @@ made_ordered ω φ n m es made h = go (passed_ok (make_checks φ.lanes n m) (z, 
         let short = leb-true m line_limit (and_parts (leb 1 m) (leb m line_limit) parts.1).1 in
         let quiet = quiet_all φ.lanes (2 * n) (lanes_fit z φ.lanes lanes) waits in
         let r = run_rule ω z fresh_state φ es in
-        subst (OrderOf ω φ es) (sym e) (runs_ordered z r.events r.state r.fabric.lanes (runs_on ω z es [] fresh_state φ (fresh_fits z few short) (none_yet (fresh_meaning φ.lanes quiet))))
+        subst (OrderOf ω φ es) (sym e) (runs_ordered z (calls_of r.events) r.state r.fabric.lanes (runs_on ω z es [] fresh_state φ (fresh_fits z few short) (none_yet (fresh_meaning φ.lanes quiet))))

@@ -24,7 +24,8 @@ use Rattle.order.specs.Common.{Load, Fence, Evict, Done, Waits, Value}
 use Rattle.order.proofs.Machine.{Request, Read, Sync, Drop, Nothing, act, Settled, Ready, line_after, wait_after, Sends, hit, miss, fences, evicts}
 use Rattle.run.proofs.Meaning.{wait_of, line_held, line_of, copy_is, request_of, notice_of, meaning}
 use Rattle.run.proofs.Tables.{Fits, set_each, shim_here, fits_shim}
-use Rattle.run.proofs.Steps.{Passed, Follows, same, unless, lanes_fit, other_shim}
+use Rattle.rules.proofs.Passed.{Passed}
+use Rattle.run.proofs.Steps.{Follows, same, unless, lanes_fit, other_shim}
 
 -- what the tests of a call that sends something say: there is such a shim, and it is ready
 pub record Sender (z : Size) (b : State) (lanes : List Lane) (s : ℕ) : Type 0 where

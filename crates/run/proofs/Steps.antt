@@ -1,23 +1,20 @@
 -- What a call leaves is a step of the machine: how that is shown, whatever the call.
-use Rattle.std.proofs.Common.{◌≡◌, ℕ, ◌*◌, Bool, true, false, cond, not, eqb, ◌≢◌, List, [], ◌∷◌, length, get_or, None, Err, refl, ap}
+use Rattle.std.proofs.Common.{◌≡◌, ℕ, ◌*◌, false, not, eqb, ◌≢◌, List, length, get_or, None, refl, ap}
 use Rattle.std.proofs.lemmas.Bool.{eqb-true, not-false}
 use Rattle.fabric.specs.Backing.{Backing, Model}
 use Rattle.fabric.specs.Lanes.{Lane}
-use Rattle.rules.specs.Checks.{After, after, unless_refused}
+use Rattle.rules.specs.Checks.{After, unless_refused}
 use Rattle.rules.specs.Refusals.{Check}
 use Rattle.rules.specs.State.{with_shim}
 use Rattle.rules.specs.declared.state.Shim.{Shim}
 use Rattle.rules.specs.declared.state.Size.{Size}
 use Rattle.rules.specs.declared.state.State.{State}
+use Rattle.rules.proofs.Passed as passed
+use Rattle.rules.proofs.Passed.{Passed, any_refused}
 use Rattle.order.specs.Common.{Call}
 use Rattle.order.proofs.Machine.{Board, Same, SameShim, Step, refused}
 use Rattle.run.proofs.Meaning.{wait_of, line_of, meaning}
 use Rattle.run.proofs.Tables.{Fits, shim_there}
-
--- every test is passed
-abbrev pub Passed : List Check → Type 0
-Passed [] = Unit {0}
-Passed (c ∷ cs) = (c.fails ≡ false) × Passed cs
 
 -- what a call c leaves is a step from where it began
 pub record Follows {ω : Backing} (z : Size) (b : State) (φ : Model ω) (c : Call) (a : After ω) : Type 0 where
@@ -36,13 +33,9 @@ same b =
 -- a refusal is a step, so only what is left by a call that passes its tests has to be looked at
 pub unless : {ω : Backing} (z : Size) (b : State) (φ : Model ω) (c : Call) → Fits z b → (checks : List Check) (accepted : After ω)
     → (Passed checks → Follows z b φ c accepted) → Follows z b φ c (unless_refused b φ checks accepted)
-unless z b φ c fits [] accepted h = h tt
-unless z b φ c fits (t ∷ ts) accepted h = go t.fails refl (λ k. unless z b φ c fits ts accepted k)
-  where
-    go : (f : Bool) → t.fails ≡ f → ((Passed ts → Follows z b φ c accepted) → Follows z b φ c (unless_refused b φ ts accepted))
-        → Follows z b φ c (cond f (after (Err t.refusal) b φ) (unless_refused b φ ts accepted))
-    go true q rest = record { fits = fits; step = refused c t.refusal (same (meaning b φ.lanes)) }
-    go false q rest = rest (λ k. h (q, k))
+unless z b φ c fits checks accepted h =
+    passed.unless b φ (Follows z b φ c) checks accepted
+    (any_refused b φ (Follows z b φ c) (λ e. record { fits = fits; step = refused c e (same (meaning b φ.lanes)) }) checks) h
 
 -- WHAT THE TESTS SAY
 

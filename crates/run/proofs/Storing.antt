@@ -21,7 +21,8 @@ use Rattle.order.proofs.Machine.{Request, Write, Writes, unheld, line_after, wai
 use Rattle.run.proofs.Meaning.{wait_of, line_held, line_of, request_of}
 use Rattle.run.proofs.Tables.{Fits, shim_twice, fits_shim, fits_store}
 use Rattle.run.proofs.Sending.{Sender, sender, line_changes, sends}
-use Rattle.run.proofs.Steps.{Passed, Follows, unless}
+use Rattle.rules.proofs.Passed.{Passed}
+use Rattle.run.proofs.Steps.{Follows, unless}
 
 -- the strengths that a store takes are small numbers
 small_strength : (g : ℕ) → not (is_some (fitting access.Store g)) ≡ false → g ≤ 3

@@ -1,10 +1,22 @@
--- What the common order is told of the end of a run.
-use Rattle.std.specs.Prelude.{◌≡◌, ℕ, ◌<◌, true, List, []}
+-- What the common order is told of a run: its calls, and its end.
+use Rattle.std.specs.Prelude.{◌≡◌, ℕ, ◌<◌, true, List, [], ◌∷◌, Some, Option}
+use Rattle.std.specs.List.{flat_map}
 use Rattle.fabric.specs.Lanes.{Lane, messages_of}
+use Rattle.rules.specs.declared.action.Action.{Action}
+use Rattle.rules.specs.declared.action.Action.TheVariants.{Make}
+use Rattle.rules.specs.declared.event.Event.{Event}
 use Rattle.rules.specs.declared.state.Size.{Size}
 use Rattle.rules.specs.declared.state.State.{State}
 use Rattle.rules.specs.State.{hub_at, line_at, is_held, copy_of}
-use Rattle.order.specs.Common.{End}
+use Rattle.order.specs.Common.{Outcome, Trace, End}
+
+-- the calls of a list, with what the board said to each; claims and handings back are no calls
+abbrev pub call_told : Action → Option Outcome → Trace
+call_told (Make c) (Some r) = (c, r) ∷ []
+call_told a o = []
+
+abbrev pub calls_of : List Event → Trace
+calls_of es = flat_map (λ (e : Event). call_told e.action e.outcome) es
 
 -- whether no message waits, the hub's words, and the copies that shims hold
 abbrev pub end_of : Size → State → List Lane → End

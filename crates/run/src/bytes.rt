@@ -8,7 +8,7 @@ use board::Board;
 use frames::Frames;
 use rules::{Event, Refusal};
 
-// Makes a fabric in the caller's bytes and a board over it, and makes the calls of a list: every byte is known afterwards.
+// Makes a fabric in the caller's bytes and a board over it, and does what a list asks: every byte is known afterwards.
 pub fn run_in_bytes(
     shims: u32,
     lines: u32,

@@ -1,4 +1,4 @@
-// One call that makes a board and runs a list of calls on it. Its contract has the rules and the common order of the run.
+// One call that makes a board and does on it what a list asks. Its contract has the rules and the common order of the run.
 #![tactic(auto)]
 
 mod bytes;

@@ -5,7 +5,7 @@ use board::Board;
 use fabric::Fabric;
 use rules::{Event, Refusal};
 
-// Makes a board over a fabric, and makes the calls of a list on it, one after the other. Each event is given what the board said.
+// Makes a board over a fabric, and does on it what a list asks, one event after the other. Each event is given what the board said.
 pub fn run_events<F: Fabric>(
     shims: u32,
     lines: u32,
@@ -18,7 +18,7 @@ pub fn run_events<F: Fabric>(
 {
     let mut board = Board::new(&*fabric, shims, lines)?;
     for event in events.iter_mut() {
-        event.outcome = Some(board.call(fabric, event.call));
+        event.outcome = Some(board.act(fabric, event.action));
     }
     Ok(board)
 }

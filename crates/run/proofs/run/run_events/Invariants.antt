@@ -1,4 +1,4 @@
--- At each turn, the events that were made with those to come are the whole run.
+-- At each turn, the events that were done with those to come are the whole run.
 use Rattle.std.proofs.Common.{◌≡◌, take, drop}
 use Rattle.rules.specs.Calls.{run_rule}
 use Rattle.run.proofs.Loop.{with_rest}
