@@ -30,8 +30,8 @@ abbrev pub turned : {ω : Backing} → Board → Model ω → ℕ → Size × Af
 turned {ω} b φ s = (b.size, turn_rule ω b.size b.state φ s)
 
 -- a board once shim s is claimed, and once it is handed back
-abbrev pub claimed : Board → ℕ → Size × State
-claimed b s = (b.size, after_claim b.size b.state s)
+abbrev pub once_claimed : Board → ℕ → Size × State
+once_claimed b s = (b.size, after_claim b.size b.state s)
 
-abbrev pub handed_back : Board → ℕ → Size × State
-handed_back b s = (b.size, after_hand_back b.size b.state s)
+abbrev pub once_handed_back : Board → ℕ → Size × State
+once_handed_back b s = (b.size, after_hand_back b.size b.state s)

@@ -12,7 +12,7 @@ impl Board {
         ensures rule { left result self.new (F.Fabric.model fabric.new) ≡ acted self.old (F.Fabric.model fabric.old) action }
     {
         match action {
-            Action::Make(call) => self.call(fabric, call),
+            Action::Call(call) => self.call(fabric, call),
             Action::Claim { shim } => self.claim(shim),
             Action::HandBack { shim } => {
                 self.hand_back(shim);

@@ -11,6 +11,8 @@ mod claims;
 #[cfg(test)]
 mod handing_back;
 #[cfg(test)]
+mod lists;
+#[cfg(test)]
 mod refused;
 #[cfg(test)]
 mod stand;

@@ -32,7 +32,7 @@ impl Stand {
         Ok(stand)
     }
 
-    // Makes these calls, and none of them is refused: a test may have a handle meanwhile.
+    // Makes these calls and asserts that none is refused: a test that holds a handle cannot leave by `?`.
     pub(crate) fn accepts(&mut self, rt: &impl Abort, calls: &[Call]) {
         for call in calls {
             let outcome = self.call(*call);

@@ -3,7 +3,7 @@ use crate::console::Console;
 use crate::scene::{PANEL, STEP};
 use board::Board;
 use fabric::Fabric;
-use handles::{Handle, Ready};
+use handles::Ready;
 use rules::{Answer, Outcome, Refusal, Strength};
 
 pub(crate) fn run<F: Fabric>(
@@ -15,11 +15,7 @@ pub(crate) fn run<F: Fabric>(
     console.tell("another claim of the panel's shim", claim_once(board));
     let (handle, outcome) = ready.store(board, fabric, STEP, u8::from(Strength::Relaxed), 170);
     console.tell("the panel stores 170 to the step", outcome);
-    match handle {
-        Handle::Ready(ready) => ready.hand_back(board),
-        // Only an SC store waits. A handle that waits is handed back all the same.
-        Handle::Waiting(waiting) => waiting.hand_back(board),
-    }
+    handle.hand_back(board);
     console.tell("a claim once the panel has handed back", claim_once(board));
     Ok(())
 }

@@ -25,9 +25,14 @@ abbrev pub blames_wait : Result Answer Refusal → Bool
 blames_wait (Err ShimWaits) = true
 blames_wait r = false
 
+-- what a call of shim s leaves, where that shim was ready
 pub record Taken {ω : Backing} (s : ℕ) (a : After ω) : Type 0 where
   pub ready : is_ready (wait_at a.state s) ≡ not (waits a.outcome)
   pub taken : blames_wait a.outcome ≡ false
+
+-- .. by a call that never waits
+abbrev pub Stays : {ω : Backing} → ℕ → After ω → Type 0
+Stays s a = Taken s a × (waits a.outcome ≡ false)
 
 -- what a replaced shim waits for
 pub replaced : (b : State) {s : ℕ} (shim : Shim) → s < length b.shims → is_ready (wait_at (with_shim b s shim) s) ≡ is_ready shim.wait
@@ -71,15 +76,11 @@ module _ {ω : Backing} (z : Size) (b : State) (φ : Model ω) (s : ℕ) (long :
       unless b φ (Taken s) (fence_checks z b φ.lanes s g) _ (λ q. keep refl, (λ q. keep refl, (λ q. keep refl, (not_waited, (λ q. keep refl, tt)))))
       (λ (lanes, (shim, rest)). record { ready = replaced b _ (low shim); taken = refl })
 
-  -- an eviction never waits
-  abbrev Stays : After ω → Type 0
-  Stays a = Taken s a × (waits a.outcome ≡ false)
-
-  pub evict_taken : (x : ℕ) → Stays (evict_rule ω z b φ s x)
+  pub evict_taken : (x : ℕ) → Stays s (evict_rule ω z b φ s x)
   evict_taken x =
-      unless b φ Stays (evict_checks z b φ.lanes s x) _
+      unless b φ (Stays s) (evict_checks z b φ.lanes s x) _
       (λ q. stay refl, (λ q. stay refl, (λ q. stay refl, (not_waited, (λ q. stay refl, (λ q. stay refl, (λ q. stay refl, tt)))))))
       (λ k. (record { ready = replaced b _ (low k.1.0) ∙ ready; taken = refl }, refl))
     where
-      stay : {e : Refusal} → blames_wait (Err e) ≡ false → Stays (after (Err e) b φ)
+      stay : {e : Refusal} → blames_wait (Err e) ≡ false → Stays s (after (Err e) b φ)
       stay other = (keep other, refl)

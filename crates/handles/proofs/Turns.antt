@@ -19,7 +19,7 @@ use Rattle.rules.specs.declared.refusal.Refusal.TheVariants.{NotWaiting}
 use Rattle.rules.specs.declared.state.Size.{Size}
 use Rattle.rules.specs.declared.state.State.{State}
 use Rattle.rules.proofs.Passed.{Passed, unless}
-use Rattle.handles.specs.Handles.{ends_wait}
+use Rattle.handles.specs.Handles.{wait_over}
 use Rattle.handles.proofs.Calls.{replaced}
 
 -- is the turn refused because the shim does not wait
@@ -29,7 +29,7 @@ blames_ready r = false
 
 -- what a turn of a shim leaves, where the board was b before
 pub record Turned {ω : Backing} (b : State) (s : ℕ) (a : After ω) : Type 0 where
-  pub ready : ends_wait a.outcome ≡ is_ready (wait_at a.state s)
+  pub ready : wait_over a.outcome ≡ is_ready (wait_at a.state s)
   pub taken : is_ready (wait_at b s) ≡ false → blames_ready a.outcome ≡ false
 
 module _ {ω : Backing} (z : Size) (b : State) (φ : Model ω) (s : ℕ) (long : z.shims ≤ length b.shims) (on_board : s < z.shims) where
@@ -45,14 +45,14 @@ module _ {ω : Backing} (z : Size) (b : State) (φ : Model ω) (s : ℕ) (long :
       down_taken (shim, (waits, end)) =
           unless b φ (Turned b s) (down_checks z b φ.lanes s m) (handed ω b φ s m) (λ q. keep refl refl, (λ q. keep refl refl, (λ q. keep refl refl, (λ q. keep refl refl, tt)))) accepted
         where
-          keep : {e : Refusal} → ends_wait (Err e) ≡ false → blames_ready (Err e) ≡ false → Turned b s (after (Err e) b φ)
+          keep : {e : Refusal} → wait_over (Err e) ≡ false → blames_ready (Err e) ≡ false → Turned b s (after (Err e) b φ)
           keep still other = record { ready = still ∙ sym waits; taken = λ k. other }
 
-          by_ack : (t : Bool) → ends_wait (Ok (cond t Ended (Handled WriteAck))) ≡ is_ready (cond t None (wait_at b s))
+          by_ack : (t : Bool) → wait_over (Ok (cond t Ended (Handled WriteAck))) ≡ is_ready (cond t None (wait_at b s))
           by_ack true = refl
           by_ack false = sym waits
 
-          by_kind : (k : Kind) → ends_wait (Ok (answer_by m k)) ≡ is_ready (cond (ends m k) None (wait_at b s))
+          by_kind : (k : Kind) → wait_over (Ok (answer_by m k)) ≡ is_ready (cond (ends m k) None (wait_at b s))
           by_kind ReadResponse = refl
           by_kind FenceResponse = refl
           by_kind WriteAck = by_ack (is_sc m.mark)

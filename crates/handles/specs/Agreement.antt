@@ -16,12 +16,14 @@ is_ready_handle (Waiting h) = false
 abbrev pub ready_at : Board → ℕ → Bool
 ready_at b s = is_ready (wait_at b.state s)
 
--- What board b says, r, to a call through a ready handle for shim s, where that shim is ready: it is not refused because the shim waits,
--- and a ready handle comes back (t) exactly where the shim is ready on the board b' that is left.
-abbrev pub CallAgrees : Board → ℕ → Bool → Board → Result Answer Refusal → Type 0
-CallAgrees b s t b' r = ready_at b s ≡ true → (t ≡ ready_at b' s) × (r ≢ Err ShimWaits)
+-- What board b says, r, to a call through a ready handle for shim s, where that shim is ready: a ready handle comes back (t) exactly where
+-- the shim is ready on the board b' that is left, and the call is not refused because the shim waits.
+pub record CallAgrees (b : Board) (s : ℕ) (t : Bool) (b' : Board) (r : Result Answer Refusal) : Type 0 where
+  pub handle : ready_at b s ≡ true → t ≡ ready_at b' s
+  pub taken : ready_at b s ≡ true → r ≢ Err ShimWaits
 
 -- The same of a turn, on any board that has the shim: a ready handle comes back exactly where the shim is ready then, whatever was
 -- before; where the shim waits, the turn is not refused because it does not.
-abbrev pub TurnAgrees : Board → ℕ → Bool → Board → Result Answer Refusal → Type 0
-TurnAgrees b s t b' r = s < b.size.shims → (t ≡ ready_at b' s) × (ready_at b s ≡ false → r ≢ Err NotWaiting)
+pub record TurnAgrees (b : Board) (s : ℕ) (t : Bool) (b' : Board) (r : Result Answer Refusal) : Type 0 where
+  pub handle : s < b.size.shims → t ≡ ready_at b' s
+  pub taken : s < b.size.shims → ready_at b s ≡ false → r ≢ Err NotWaiting

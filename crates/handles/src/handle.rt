@@ -1,7 +1,7 @@
 ghost use Rattle.std.specs.Prelude.{◌≡◌};
-ghost use Rattle.board.specs.Called.{handed_back};
+ghost use Rattle.board.specs.Called.{once_handed_back};
 ghost use Rattle.board.specs.Made.{whole};
-ghost use Rattle.handles.specs.Handles.{shim_of};
+ghost use Rattle.handles.specs.Handles.{handle_shim};
 
 use crate::ready::Ready;
 use crate::waiting::Waiting;
@@ -16,7 +16,7 @@ pub enum Handle {
 impl Handle {
     // Ends the claim, whichever handle it is.
     pub fn hand_back(self, board: &mut Board)
-        ensures { whole board.new ≡ handed_back board.old (shim_of self) }
+        ensures { whole board.new ≡ once_handed_back board.old (handle_shim self) }
     {
         match self {
             Handle::Ready(ready) => ready.hand_back(board),

@@ -1,4 +1,4 @@
-// Handles for chips: a chip's program holds one for its shim, and can make no call through it that the shim cannot take, nor lose it.
+// Handles for chips: a chip's program holds one for its shim. Its type says whether the shim waits, and it cannot be let go without being handed back.
 #![tactic(auto)]
 
 mod handle;

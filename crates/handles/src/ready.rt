@@ -2,7 +2,7 @@ ghost use Rattle.std.specs.Prelude.{◌≡◌, true};
 ghost use Rattle.rules.specs.Claim.{claim_checks};
 ghost use Rattle.rules.specs.Refusals.{passing};
 ghost use Rattle.rules.specs.declared.call.Call.TheVariants.{Load, Store, Fence, Evict};
-ghost use Rattle.board.specs.Called.{left, called, claimed, handed_back};
+ghost use Rattle.board.specs.Called.{left, called, once_claimed, once_handed_back};
 ghost use Rattle.board.specs.Made.{whole};
 ghost use Rattle.handles.specs.Agreement.{is_ready_handle, CallAgrees};
 ghost use Rattle.handles.specs.Handles.{ready_for, after_call};
@@ -13,7 +13,7 @@ use board::Board;
 use fabric::{Fabric, Word};
 use rules::{Answer, Outcome, Refusal};
 
-// A handle for a shim, whose chip is to make its next call.
+// A handle for a shim that is ready for its chip's next call.
 pub struct Ready {
     pub(crate) shim: u32,
     pub(crate) spent: bool,
@@ -32,12 +32,13 @@ impl Ready {
     // Claims a shim.
     pub fn claim(board: &mut Board, shim: u32) -> Result<Ready, Refusal>
         ensures handle { result ≡ passing (claim_checks board.old.size board.old.state shim) (ready_for shim) }
-        ensures board { whole board.new ≡ claimed board.old shim }
+        ensures board { whole board.new ≡ once_claimed board.old shim }
     {
         board.claim(shim)?;
         Ok(Ready { shim, spent: false })
     }
 
+    // The board's load, at the handle's shim.
     pub fn load<F: Fabric>(
         self,
         board: &mut Board,
@@ -54,6 +55,7 @@ impl Ready {
         (self.after(outcome), outcome)
     }
 
+    // The board's store.
     pub fn store<F: Fabric>(
         self,
         board: &mut Board,
@@ -71,6 +73,7 @@ impl Ready {
         (self.after(outcome), outcome)
     }
 
+    // The board's fence.
     pub fn fence<F: Fabric>(
         self,
         board: &mut Board,
@@ -86,7 +89,7 @@ impl Ready {
         (self.after(outcome), outcome)
     }
 
-    // An eviction never waits, so the handle stays a ready one.
+    // The board's eviction. It never waits, so the handle stays a ready one.
     pub fn evict<F: Fabric>(self, board: &mut Board, fabric: &mut F, line: u32) -> (Ready, Outcome)
         ensures lender { F.Fabric.lender fabric.new ≡ F.Fabric.lender fabric.old }
         ensures rule { left result.1 board.new (F.Fabric.model fabric.new) ≡ called board.old (F.Fabric.model fabric.old) (Evict self.shim line) }
@@ -99,7 +102,7 @@ impl Ready {
 
     // Ends the claim.
     pub fn hand_back(mut self, board: &mut Board)
-        ensures { whole board.new ≡ handed_back board.old self.shim }
+        ensures { whole board.new ≡ once_handed_back board.old self.shim }
     {
         board.hand_back(self.shim);
         self.spent = true;

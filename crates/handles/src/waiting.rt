@@ -1,5 +1,5 @@
 ghost use Rattle.std.specs.Prelude.{◌≡◌, true};
-ghost use Rattle.board.specs.Called.{left, turned, handed_back};
+ghost use Rattle.board.specs.Called.{left, turned, once_handed_back};
 ghost use Rattle.board.specs.Made.{whole};
 ghost use Rattle.handles.specs.Agreement.{is_ready_handle, TurnAgrees};
 ghost use Rattle.handles.specs.Handles.{after_turn};
@@ -38,7 +38,7 @@ impl Waiting {
 
     // Ends the claim. The shim goes on waiting.
     pub fn hand_back(mut self, board: &mut Board)
-        ensures { whole board.new ≡ handed_back board.old self.shim }
+        ensures { whole board.new ≡ once_handed_back board.old self.shim }
     {
         board.hand_back(self.shim);
         self.spent = true;

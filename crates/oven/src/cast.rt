@@ -71,7 +71,7 @@ fn throw_step_out(oven: &mut Oven, heater: Chip) -> Chip {
 fn wait_for_ready(oven: &mut Oven, heater: Chip) -> Chip {
     let mut heater = oven.load(heater, Line::ReadyWord);
     for _ in 0..oven.waiting(Role::Heater) {
-        if oven.watch().saw_ready() {
+        if heater.word() == Some(READY) {
             break;
         }
         oven.down(Role::Heater);

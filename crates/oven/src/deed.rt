@@ -12,8 +12,9 @@ pub(crate) enum Deed {
     Evict(Role, Line),
     // The hub performs a chip's next message.
     Up(Role),
-    // A chip is handed its next message: while it does not wait, and through its handle while it does.
+    // A chip that does not wait is handed its next message.
     Down(Role),
+    // One that waits turns, by its handle.
     Turn(Role),
     HandBack(Role),
 }
@@ -24,23 +25,23 @@ impl Deed {
         match self {
             Deed::Claim(role) => Action::Claim { shim: role.shim() },
             Deed::HandBack(role) => Action::HandBack { shim: role.shim() },
-            Deed::Load(role, line) => Action::Make(Call::Load {
+            Deed::Load(role, line) => Action::Call(Call::Load {
                 shim: role.shim(),
                 line: line.number(),
                 strength: line.load_strength(),
             }),
-            Deed::Store(role, line, value) => Action::Make(Call::Store {
+            Deed::Store(role, line, value) => Action::Call(Call::Store {
                 shim: role.shim(),
                 line: line.number(),
                 strength: line.store_strength(),
                 value,
             }),
-            Deed::Evict(role, line) => Action::Make(Call::Evict {
+            Deed::Evict(role, line) => Action::Call(Call::Evict {
                 shim: role.shim(),
                 line: line.number(),
             }),
-            Deed::Up(role) => Action::Make(Call::Up { shim: role.shim() }),
-            Deed::Down(role) | Deed::Turn(role) => Action::Make(Call::Down { shim: role.shim() }),
+            Deed::Up(role) => Action::Call(Call::Up { shim: role.shim() }),
+            Deed::Down(role) | Deed::Turn(role) => Action::Call(Call::Down { shim: role.shim() }),
         }
     }
 }

@@ -18,11 +18,35 @@ pub(crate) fn lanes() -> Stage<Ring> {
 pub(crate) struct Chip {
     role: Role,
     handle: Option<Handle>,
+    // The word that its last call gave, where it gave one.
+    word: Option<Word>,
 }
 
 impl Chip {
+    // A chip that made no call.
+    fn idle(role: Role, handle: Option<Handle>) -> Chip {
+        Chip {
+            role,
+            handle,
+            word: None,
+        }
+    }
+
+    fn parts(self) -> (Role, Option<Handle>) {
+        let Chip {
+            role,
+            handle,
+            word: _,
+        } = self;
+        (role, handle)
+    }
+
     pub(crate) fn role(&self) -> Role {
         self.role
+    }
+
+    pub(crate) fn word(&self) -> Option<Word> {
+        self.word
     }
 }
 
@@ -65,18 +89,17 @@ impl Oven {
         match Ready::claim(&mut self.board, role.shim()) {
             Ok(ready) => {
                 self.note(Deed::Claim(role), Ok(Answer::Done));
-                let handle = Some(Handle::Ready(ready));
-                Chip { role, handle }
+                Chip::idle(role, Some(Handle::Ready(ready)))
             }
             Err(refusal) => {
                 self.note(Deed::Claim(role), Err(refusal));
-                Chip { role, handle: None }
+                Chip::idle(role, None)
             }
         }
     }
 
     pub(crate) fn load(&mut self, chip: Chip, line: Line) -> Chip {
-        let Chip { role, handle } = chip;
+        let (role, handle) = chip.parts();
         match handle {
             Some(Handle::Ready(ready)) => {
                 let (handle, outcome) = ready.load(
@@ -88,12 +111,12 @@ impl Oven {
                 self.after(role, Deed::Load(role, line), handle, outcome)
             }
             // A chip that waits, or has no handle, makes no call.
-            handle => Chip { role, handle },
+            handle => Chip::idle(role, handle),
         }
     }
 
     pub(crate) fn store(&mut self, chip: Chip, line: Line, word: Word) -> Chip {
-        let Chip { role, handle } = chip;
+        let (role, handle) = chip.parts();
         match handle {
             Some(Handle::Ready(ready)) => {
                 let (handle, outcome) = ready.store(
@@ -105,18 +128,18 @@ impl Oven {
                 );
                 self.after(role, Deed::Store(role, line, word), handle, outcome)
             }
-            handle => Chip { role, handle },
+            handle => Chip::idle(role, handle),
         }
     }
 
     pub(crate) fn evict(&mut self, chip: Chip, line: Line) -> Chip {
-        let Chip { role, handle } = chip;
+        let (role, handle) = chip.parts();
         match handle {
             Some(Handle::Ready(ready)) => {
                 let (ready, outcome) = ready.evict(&mut self.board, &mut self.lanes, line.number());
                 self.after(role, Deed::Evict(role, line), Handle::Ready(ready), outcome)
             }
-            handle => Chip { role, handle },
+            handle => Chip::idle(role, handle),
         }
     }
 
@@ -129,18 +152,18 @@ impl Oven {
     }
 
     fn turn(&mut self, chip: Chip) -> Chip {
-        let Chip { role, handle } = chip;
+        let (role, handle) = chip.parts();
         match handle {
             Some(Handle::Waiting(waiting)) => {
                 let (handle, outcome) = waiting.turn(&mut self.board, &mut self.lanes);
                 self.after(role, Deed::Turn(role), handle, outcome)
             }
-            handle => Chip { role, handle },
+            handle => Chip::idle(role, handle),
         }
     }
 
     pub(crate) fn hand_back(&mut self, chip: Chip) {
-        let Chip { role, handle } = chip;
+        let (role, handle) = chip.parts();
         if let Some(handle) = handle {
             handle.hand_back(&mut self.board);
             self.note(Deed::HandBack(role), Ok(Answer::Done));
@@ -162,8 +185,14 @@ impl Oven {
     // The chip as it comes back out of a call.
     fn after(&mut self, role: Role, deed: Deed, handle: Handle, outcome: Outcome) -> Chip {
         self.note(deed, outcome);
-        let handle = Some(handle);
-        Chip { role, handle }
+        Chip {
+            role,
+            handle: Some(handle),
+            word: match outcome {
+                Ok(Answer::Value(word)) => Some(word),
+                _ => None,
+            },
+        }
     }
 
     fn note(&mut self, deed: Deed, outcome: Outcome) {

@@ -2,7 +2,7 @@
 use Rattle.std.specs.Prelude.{List, [], ◌∷◌, Some, Ok}
 use Rattle.fabric.specs.Backing.{Backing, Model}
 use Rattle.rules.specs.declared.action.Action.{Action}
-use Rattle.rules.specs.declared.action.Action.TheVariants.{Make, Claim, HandBack}
+use Rattle.rules.specs.declared.action.Action.TheVariants as action
 use Rattle.rules.specs.declared.answer.Answer.TheVariants.{Done}
 use Rattle.rules.specs.declared.call.Call.{Call}
 use Rattle.rules.specs.declared.call.Call.TheVariants.{Load, Store, Fence, Evict, Up, Down}
@@ -29,9 +29,9 @@ call_rule ω z b φ (Down s) = down_rule ω z b φ s
 
 -- a call; or a claim or a handing back, which do not touch the fabric
 abbrev pub action_rule : (ω : Backing) → Size → State → Model ω → Action → After ω
-action_rule ω z b φ (Make c) = call_rule ω z b φ c
-action_rule ω z b φ (Claim s) = after (claim_answer z b s) (after_claim z b s) φ
-action_rule ω z b φ (HandBack s) = after (Ok Done) (after_hand_back z b s) φ
+action_rule ω z b φ (action.Call c) = call_rule ω z b φ c
+action_rule ω z b φ (action.Claim s) = after (claim_answer z b s) (after_claim z b s) φ
+action_rule ω z b φ (action.HandBack s) = after (Ok Done) (after_hand_back z b s) φ
 
 -- what a list of actions leaves: each with what the board said to it, the board's state, the fabric
 pub record Run (ω : Backing) : Type 0 where

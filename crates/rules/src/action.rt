@@ -3,7 +3,7 @@ use crate::call::Call;
 // What a list asks of a board: a call, or that a shim be claimed or handed back.
 #[derive(Clone, Copy)]
 pub enum Action {
-    Make(Call),
+    Call(Call),
     Claim { shim: u32 },
     HandBack { shim: u32 },
 }

@@ -8,7 +8,7 @@ use Rattle.rules.specs.declared.event.Event.{Event}
 use Rattle.rules.specs.declared.state.Size.{Size}
 use Rattle.rules.specs.declared.state.State.{State}
 use Rattle.order.specs.Common.{HasCommonOrder}
-use Rattle.run.specs.Ends.{calls_of, end_of}
+use Rattle.run.specs.Told.{calls_of, end_of}
 use Rattle.run.proofs.Runs.{made_ordered}
 
 module _ (ω : Backing) (z : Size) where

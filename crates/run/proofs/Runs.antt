@@ -13,7 +13,7 @@ use Rattle.rules.specs.Refusals.{Check, passing}
 use Rattle.rules.specs.Sizes.{line_limit}
 use Rattle.rules.specs.State.{up_lane, down_lane, line_at, fresh_hub_line, fresh_shim, fresh_state}
 use Rattle.rules.specs.declared.action.Action.{Action}
-use Rattle.rules.specs.declared.action.Action.TheVariants.{Make, Claim, HandBack}
+use Rattle.rules.specs.declared.action.Action.TheVariants as action
 use Rattle.rules.specs.declared.event.Event.{Event}
 use Rattle.rules.specs.declared.state.HubLine.{HubLine}
 use Rattle.rules.specs.declared.state.Shim.{Shim}
@@ -22,7 +22,7 @@ use Rattle.rules.specs.declared.state.State.{State}
 use Rattle.order.specs.Common.{Call, Load, Store, Fence, Evict, Up, Down, Trace, HasCommonOrder}
 use Rattle.order.proofs.Machine.{NotHeld, Ready, Fresh, Runs, none_yet, one_more, alike}
 use Rattle.order.proofs.Order.{order_stands}
-use Rattle.run.specs.Ends.{call_told, calls_of, end_of}
+use Rattle.run.specs.Told.{call_told, calls_of, end_of}
 use Rattle.run.proofs.Meaning.{wait_of, line_of, copy_is, request_of, notice_of, meaning}
 use Rattle.run.proofs.Tables.{Fits}
 use Rattle.rules.proofs.Passed.{Passed}
@@ -48,9 +48,9 @@ abbrev RunsOn : {ω : Backing} → Size → Trace → Action → After ω → Ty
 RunsOn z t a r = Fits z r.state × Runs z.shims (t ++ call_told a (Some r.outcome)) (meaning r.state r.fabric.lanes)
 
 action_runs : {ω : Backing} (z : Size) (b : State) (φ : Model ω) (a : Action) {t : Trace} → Fits z b → Runs z.shims t (meaning b φ.lanes) → RunsOn z t a (action_rule ω z b φ a)
-action_runs z b φ (Make c) fits r = let k = call_follows z b φ c fits in (k.fits, one_more r k.step)
-action_runs z b φ (Claim s) fits r = let k = claim_alike z b φ.lanes s fits in (k.0, rw append-nil (alike r k.1))
-action_runs z b φ (HandBack s) fits r = let k = hand_back_alike z b φ.lanes s fits in (k.0, rw append-nil (alike r k.1))
+action_runs z b φ (action.Call c) fits r = let k = call_follows z b φ c fits in (k.fits, one_more r k.step)
+action_runs z b φ (action.Claim s) fits r = let k = claim_alike z b φ.lanes s fits in (k.0, rw append-nil (alike r k.1))
+action_runs z b φ (action.HandBack s) fits r = let k = hand_back_alike z b φ.lanes s fits in (k.0, rw append-nil (alike r k.1))
 
 -- the events es after the trace t
 runs_on : (ω : Backing) (z : Size) (es : List Event) (t : Trace) (b : State) (φ : Model ω) → Fits z b → Runs z.shims t (meaning b φ.lanes)

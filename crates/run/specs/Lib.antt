@@ -1,3 +1,3 @@
 pub mod Bytes
-pub mod Ends
+pub mod Told
 pub mod Whole

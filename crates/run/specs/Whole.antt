@@ -11,7 +11,7 @@ use Rattle.rules.specs.Make.{make_rule}
 use Rattle.board.specs.declared.board.Board.{Board}
 use Rattle.board.specs.Made.{made_of}
 use Rattle.order.specs.Common.{HasCommonOrder}
-use Rattle.run.specs.Ends.{calls_of, end_of}
+use Rattle.run.specs.Told.{calls_of, end_of}
 
 -- the board, by its size and state, or why there is none; the events; the fabric
 pub record Left (ω : Backing) : Type 0 where

@@ -1,12 +1,8 @@
-use Rattle.std.proofs.Common.{arith}
-use Rattle.handles.proofs.Agreeing.{call_agrees}
-use Rattle.handles.proofs.Calls.{load_taken}
+use Rattle.handles.proofs.Agreeing.{load_agrees}
 use Rattle.handles.proofs.ready.Ready.load.Goals as goal
 
 pub returns-clause-agrees : goal.returns-clause-agrees
 returns-clause-agrees g c =
     let model = g.F.Fabric.model in
-    let b = c.args.board.now in
-    let h = c.args.self in
     let e = c.load-outcome in
-    rw c.after.ensures (call_agrees b e.new.self (model e.new.fabric) e.result _ e.ensures.rule h (λ ready. load_taken b.size b.state (model c.args.fabric.now) h.shim (omega arith) ready c.args.line c.args.strength))
+    load_agrees c.args.board.now e.new.self (model c.args.fabric.now) (model e.new.fabric) e.result c.args.self c.after.result c.after.ensures c.args.line c.args.strength e.ensures.rule

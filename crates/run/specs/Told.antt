@@ -3,18 +3,19 @@ use Rattle.std.specs.Prelude.{◌≡◌, ℕ, ◌<◌, true, List, [], ◌∷◌
 use Rattle.std.specs.List.{flat_map}
 use Rattle.fabric.specs.Lanes.{Lane, messages_of}
 use Rattle.rules.specs.declared.action.Action.{Action}
-use Rattle.rules.specs.declared.action.Action.TheVariants.{Make}
+use Rattle.rules.specs.declared.action.Action.TheVariants.{Call}
 use Rattle.rules.specs.declared.event.Event.{Event}
 use Rattle.rules.specs.declared.state.Size.{Size}
 use Rattle.rules.specs.declared.state.State.{State}
 use Rattle.rules.specs.State.{hub_at, line_at, is_held, copy_of}
 use Rattle.order.specs.Common.{Outcome, Trace, End}
 
--- the calls of a list, with what the board said to each; claims and handings back are no calls
+-- an action, as the law is told of it: a call, with what the board said to it; a claim or a handing back is none
 abbrev pub call_told : Action → Option Outcome → Trace
-call_told (Make c) (Some r) = (c, r) ∷ []
+call_told (Call c) (Some r) = (c, r) ∷ []
 call_told a o = []
 
+-- the calls of a list
 abbrev pub calls_of : List Event → Trace
 calls_of es = flat_map (λ (e : Event). call_told e.action e.outcome) es
 
