@@ -9,6 +9,16 @@ use rules::Refusal;
 
 // The tests that calls share.
 impl Board {
+    // The shim of that number.
+    pub(crate) fn numbered(&self, shim: u32) -> Result<usize, Refusal>
+        ensures { result ≡ passing (no_shim self.now.size shim ∷ []) shim }
+    {
+        if shim as usize >= self.size.shims {
+            return Err(Refusal::NoShim);
+        }
+        Ok(shim as usize)
+    }
+
     // The shim of that number, where the fabric's lanes are the board's.
     pub(crate) fn shim<F: Fabric>(&self, fabric: &F, shim: u32) -> Result<usize, Refusal>
         ensures { result ≡ passing (wrong_lanes self.now.size (F.Fabric.model fabric.now).lanes ∷ no_shim self.now.size shim ∷ []) shim }
@@ -16,10 +26,7 @@ impl Board {
         if fabric.lane_count() != lane_count(self.size.shims) {
             return Err(Refusal::WrongSize);
         }
-        if shim as usize >= self.size.shims {
-            return Err(Refusal::NoShim);
-        }
-        Ok(shim as usize)
+        self.numbered(shim)
     }
 
     // The shim and the line of those numbers, where the fabric's lanes are the board's. Either fits a byte, so a call writes it into a message by `as u8`:

@@ -13,10 +13,7 @@ impl Board {
         ensures answer { result ≡ claim_answer self.old.size self.old.state shim }
         ensures board { whole self.new ≡ once_claimed self.old shim }
     {
-        let s = shim as usize;
-        if s >= self.size.shims {
-            return Err(Refusal::NoShim);
-        }
+        let s = self.numbered(shim)?;
         if self.state.shims[s].claimed {
             return Err(Refusal::Claimed);
         }
@@ -28,8 +25,7 @@ impl Board {
     pub fn hand_back(&mut self, shim: u32)
         ensures { whole self.new ≡ once_handed_back self.old shim }
     {
-        let s = shim as usize;
-        if s < self.size.shims {
+        if let Ok(s) = self.numbered(shim) {
             self.state.shims[s].claimed = false;
         }
     }

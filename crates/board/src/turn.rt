@@ -11,10 +11,7 @@ impl Board {
         ensures lender { F.Fabric.lender fabric.new ≡ F.Fabric.lender fabric.old }
         ensures rule { left result self.new (F.Fabric.model fabric.new) ≡ turned self.old (F.Fabric.model fabric.old) shim }
     {
-        let s = shim as usize;
-        if s >= self.size.shims {
-            return Err(Refusal::NoShim);
-        }
+        let s = self.numbered(shim)?;
         match self.state.shims[s].wait {
             None => Err(Refusal::NotWaiting),
             Some(_) => self.down(fabric, shim),
