@@ -1,16 +1,17 @@
 -- What the first message of a lane says of the lane.
-use Rattle.std.proofs.Common.{◌≡◌, ℕ, ◌+◌, ◌*◌, ◌<◌, Bool, true, false, eqb, leb, List, [], ◌∷◌, ◌++◌, length, Ok, Result, refl, ap, ◌∙◌, arith}
+use Rattle.std.proofs.Common.{◌≡◌, ℕ, ◌+◌, ◌*◌, ◌<◌, Bool, true, false, eqb, leb, List, [], ◌∷◌, ◌++◌, length, get_or, Ok, Err, Result, sym, refl, ap, ◌∙◌, arith}
 use Rattle.std.proofs.lemmas.Bool.{eqb-true, leb-false}
 use Rattle.fabric.specs.Backing.{Backing, Model, take_on, after_take}
 use Rattle.fabric.specs.Lanes.{Lane, messages_of, take_answer, rest_of}
 use Rattle.fabric.specs.declared.fault.FabricFault.{FabricFault}
 use Rattle.fabric.specs.declared.message.Message.{Message}
 use Rattle.fabric.proofs.Answered.{take_ok}
-use Rattle.rules.specs.Checks.{After, unless_refused, message_checks, is_empty, first_message, first_on}
+use Rattle.rules.specs.Checks.{After, after, unless_refused, message_checks, no_message, first_on}
 use Rattle.rules.specs.Refusals.{Check, passing}
+use Rattle.rules.specs.declared.refusal.Refusal.{Refusal}
 use Rattle.rules.specs.declared.state.Size.{Size}
 use Rattle.rules.specs.declared.state.State.{State}
-use Rattle.board.proofs.Passing.{passed_by}
+use Rattle.rules.proofs.Tested.{unless_err, tested_then}
 
 -- the lanes are the board's, there is such a shim, and m is the first message of lane k
 pub record FirstIs (z : Size) (lanes : List Lane) (s k : ℕ) (m : Message) : Type 0 where
@@ -19,14 +20,17 @@ pub record FirstIs (z : Size) (lanes : List Lane) (s k : ℕ) (m : Message) : Ty
   pub first : first_on lanes k ≡ m
   pub messages : messages_of lanes k ≡ m ∷ rest_of (messages_of lanes k)
 
-pub first_held : (ms : List Message) → is_empty ms ≡ false → ms ≡ first_message ms ∷ rest_of ms
-first_held [] h = absurd cc
-first_held (m ∷ ms) h = refl
+pub first_held : (lanes : List Lane) (k : ℕ) → eqb (length (messages_of lanes k)) 0 ≡ false → messages_of lanes k ≡ first_on lanes k ∷ rest_of (messages_of lanes k)
+first_held lanes k = held (messages_of lanes k)
+  where
+    held : (ms : List Message) → eqb (length ms) 0 ≡ false → ms ≡ get_or ms 0 no_message ∷ rest_of ms
+    held [] h = absurd cc
+    held (m ∷ ms) h = refl
 
 pub first_is : (z : Size) (lanes : List Lane) (s k : ℕ) (m : Message) → Ok m ≡ passing (message_checks z lanes s k) (first_on lanes k) → FirstIs z lanes s k m
-first_is z lanes s k m h = go (eqb (length lanes) (2 * z.shims)) refl (leb z.shims s) refl (is_empty (messages_of lanes k)) refl
+first_is z lanes s k m h = go (eqb (length lanes) (2 * z.shims)) refl (leb z.shims s) refl (eqb (length (messages_of lanes k)) 0) refl
   where
-    go : (t : Bool) → eqb (length lanes) (2 * z.shims) ≡ t → (u : Bool) → leb z.shims s ≡ u → (v : Bool) → is_empty (messages_of lanes k) ≡ v → FirstIs z lanes s k m
+    go : (t : Bool) → eqb (length lanes) (2 * z.shims) ≡ t → (u : Bool) → leb z.shims s ≡ u → (v : Bool) → eqb (length (messages_of lanes k)) 0 ≡ v → FirstIs z lanes s k m
     go false p u q v r = let k = rw p at h in absurd cc
     go true p true q v r = let k = rw (p, q) at h in absurd cc
     go true p false q true r = let k = rw (p, q, r) at h in absurd cc
@@ -36,7 +40,7 @@ first_is z lanes s k m h = go (eqb (length lanes) (2 * z.shims)) refl (leb z.shi
           lane_count = eqb-true (length lanes) (2 * z.shims) p;
           in_range = leb-false z.shims s q;
           first = e;
-          messages = first_held (messages_of lanes k) r ∙ ap (λ y. y ∷ rest_of (messages_of lanes k)) e;
+          messages = first_held lanes k r ∙ ap (λ y. y ∷ rest_of (messages_of lanes k)) e;
         }
 
 -- a rule that looks at the first message of lane k, past the tests that the message is found by
@@ -45,7 +49,9 @@ pub past_first : {ω : Backing} (z : Size) (b : State) (φ : Model ω) (s k : �
     → unless_refused b φ (message_checks z φ.lanes s k ++ tests (first_on φ.lanes k)) (accepted (first_on φ.lanes k)) ≡ unless_refused b φ (tests m) (accepted m)
 past_first z b φ s k m tests accepted found =
     let f = first_is z φ.lanes s k m found in
-    passed_by b φ (accepted (first_on φ.lanes k)) (first_on φ.lanes k) (tests (first_on φ.lanes k)) m (message_checks z φ.lanes s k) found
+    let refuse = λ (e : Refusal). after (Err e) b φ in
+    tested_then refuse (first_on φ.lanes k) (message_checks z φ.lanes s k) (tests (first_on φ.lanes k)) (accepted (first_on φ.lanes k))
+    ∙ ap (λ r. unless_err refuse r (unless_refused b φ (tests (first_on φ.lanes k)) (accepted (first_on φ.lanes k)))) (sym found)
     ∙ ap (λ y. unless_refused b φ (tests y) (accepted y)) f.first
 
 -- a take from a lane whose first message was looked at

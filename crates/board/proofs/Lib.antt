@@ -1,7 +1,6 @@
 mod Defaults
 mod Deliveries
 pub mod Firsts
-mod Passing
 mod Performing
 mod Rooms
-mod Sends
+pub mod Sends

@@ -1,7 +1,8 @@
--- An up that is refused or accepted, past the tests that its message is found by.
-use Rattle.std.proofs.Common.{◌≡◌, ℕ, List, [], ◌∷◌, Ok, Err, Option, sym, ap, ◌∙◌, append-nil}
+-- An up, past the tests that its message is found by.
+use Rattle.std.proofs.Common.{◌≡◌, ℕ, List, ◌∷◌, Ok, Err, Option, Result, sym, ap, ◌∙◌}
 use Rattle.fabric.specs.Backing.{Backing, Model, take_on}
 use Rattle.fabric.specs.declared.message.Message.{Message}
+use Rattle.rules.proofs.Tested.{unless_err, tested_by}
 use Rattle.rules.specs.Checks.{After, after, unless_refused, message_checks, foreign_on, first_on}
 use Rattle.rules.specs.Refusals.{Check, passing}
 use Rattle.rules.specs.State.{up_lane, hub_at, with_hub}
@@ -14,7 +15,6 @@ use Rattle.rules.specs.declared.state.Size.{Size}
 use Rattle.rules.specs.declared.state.State.{State}
 use Rattle.board.specs.Upward.{Upward}
 use Rattle.board.proofs.Firsts.{past_first}
-use Rattle.board.proofs.Passing.{passed_by, refused_by}
 
 module _ (ω : Backing) (z : Size) (b : State) (φ : Model ω) (s : ℕ) (m : Message) (found : Ok m ≡ passing (message_checks z φ.lanes s (up_lane s)) (first_on φ.lanes (up_lane s))) where
   -- the tests of the message itself
@@ -40,12 +40,8 @@ module _ (ω : Backing) (z : Size) (b : State) (φ : Model ω) (s : ℕ) (m : Me
         ∙ ap (λ y. unless_refused b φ (full_lanes (λ j. sent_by (hub_at b m.line) m j y) φ.lanes z.shims)
         (after (Ok (Handled y)) (with_hub b m.line (hub_by (hub_at b m.line) m y)) (send_all ω (λ j. sent_by (hub_at b m.line) m j y) (take_on ω φ (up_lane s)) z.shims))) known.kind)
 
-    pub up_full : (e : Refusal) → Err e ≡ passing (full_lanes sent φ.lanes z.shims) (tt {0}) → after (Err e) b φ ≡ up_rule ω z b φ s
-    up_full e full =
-        refused_by b φ accepted (tt {0}) [] e (full_lanes sent φ.lanes z.shims) full
-        ∙ ap (λ cs. unless_refused b φ cs accepted) (append-nil (full_lanes sent φ.lanes z.shims)) ∙ sym at_kind
-
-    pub up_accepted : Ok (tt {0}) ≡ passing (full_lanes sent φ.lanes z.shims) (tt {0}) → accepted ≡ up_rule ω z b φ s
-    up_accepted open_lanes =
-        sym (at_kind ∙ ap (λ cs. unless_refused b φ cs accepted) (sym (append-nil (full_lanes sent φ.lanes z.shims)))
-        ∙ passed_by b φ accepted (tt {0}) [] (tt {0}) (full_lanes sent φ.lanes z.shims) open_lanes)
+    -- the rule by what the lanes to be sent on say
+    pub up_by : (r : Result Unit Refusal) → r ≡ passing (full_lanes sent φ.lanes z.shims) tt → unless_err (λ e. after (Err e) b φ) r accepted ≡ up_rule ω z b φ s
+    up_by r said =
+        let refuse = λ (e : Refusal). after (Err e) b φ in
+        sym (at_kind ∙ tested_by refuse tt (full_lanes sent φ.lanes z.shims) accepted ∙ ap (λ x. unless_err refuse x accepted) (sym said))

@@ -1,4 +1,5 @@
 pub mod Called
+pub mod Heard
 pub mod Made
 pub mod Room
 pub mod Upward

@@ -39,12 +39,11 @@ impl Board {
     ) -> Result<(usize, usize), Refusal>
         ensures { result ≡ passing (wrong_lanes self.now.size (F.Fabric.model fabric.now).lanes ∷ no_shim self.now.size shim ∷ no_line self.now.size line ∷ []) (shim, line) }
     {
-        let s = self.shim(fabric, shim)?;
-        let x = line as usize;
-        if x >= self.size.lines {
+        self.shim(fabric, shim)?;
+        if line as usize >= self.size.lines {
             return Err(Refusal::NoLine);
         }
-        Ok((s, x))
+        Ok((shim as usize, line as usize))
     }
 
     // The first message of a lane of a shim.

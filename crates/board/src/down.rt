@@ -1,12 +1,14 @@
-ghost use Rattle.std.specs.Prelude.{◌≡◌};
+ghost use Rattle.std.specs.Prelude.{◌≡◌, ◌<◌};
 ghost use Rattle.rules.specs.declared.call.Call.TheVariants.{Down};
+ghost use Rattle.rules.specs.Sizes.{line_limit};
 ghost use Rattle.board.specs.Called.{left, called};
+ghost use Rattle.board.specs.Heard.{hearing, heard};
 
 use crate::board::Board;
 use crate::lanes::down_lane;
 use effects::deliver;
-use fabric::Fabric;
-use rules::{Outcome, Refusal};
+use fabric::{Fabric, Message};
+use rules::{Answer, Outcome, Refusal, Shim};
 
 impl Board {
     // Hands the first message of a shim's down lane to the shim.
@@ -22,12 +24,17 @@ impl Board {
         if x >= self.size.lines || msg.sender as usize >= self.size.shims {
             return Err(foreign);
         }
-        let here = self.state.shims[s].lines[x];
-        let delivery = deliver(self.state.shims[s].wait, here, msg).ok_or(foreign)?;
+        let answer = hear(&mut self.state.shims[s], msg).ok_or(foreign)?;
         // Never refused: the message is still the first of its lane.
         let _ = fabric.take(lane);
-        self.state.shims[s].wait = delivery.wait;
-        self.state.shims[s].lines[x] = delivery.line;
-        Ok(delivery.answer)
+        Ok(answer)
     }
+}
+
+// Hands a message to a shim, and answers; none, and no change, where it is foreign.
+fn hear(shim: &mut Shim, msg: Message) -> Option<Answer>
+    requires { msg.line < line_limit }
+    ensures { hearing result shim.new ≡ heard shim.old msg }
+{
+    deliver(&mut shim.wait, &mut shim.lines[msg.line as usize], msg)
 }

@@ -22,30 +22,33 @@ impl Board {
     {
         let lane = up_lane(shim as usize);
         let msg = self.first(fabric, shim, lane)?;
-        let request = self.request(shim, msg).ok_or(Refusal::Foreign(lane))?;
+        let Some(request) = self.request(shim, msg) else {
+            return Err(Refusal::Foreign(lane));
+        };
         self.room(fabric, request)?;
         // Never refused: the message is still the first of its lane.
         let _ = fabric.take(lane);
         self.send(fabric, request);
+        let kind = request.kind;
         self.state.hub[msg.line as usize] = request.performed();
-        Ok(Answer::Handled(request.kind))
+        Ok(Answer::Handled(kind))
     }
 
     // What a message on a shim's up lane asks of the hub; none where it is foreign.
-    fn request(&self, shim: u32, msg: Message) -> Option<Request>
-        ensures { MatchOption result (foreign_up self.now.size self.now.state shim msg ≡ true) (λ r. Upward self.now.size self.now.state shim msg r.msg r.kind r.hub) }
+    fn request(&self, shim: u32, msg: Message) -> Option<Request<'_>>
+        ensures { MatchOption result (foreign_up self.now.size self.now.state shim msg ≡ true) (λ r. Upward self.now.size self.now.state shim msg r.msg r.kind r.hub.now) }
     {
         let x = msg.line as usize;
         if x >= self.size.lines || msg.sender as u32 != shim {
             return None;
         }
-        Request::of(self.state.hub[x], msg)
+        Request::of(&self.state.hub[x], msg)
     }
 
     // Refuses where a lane is full that a shim is to be sent something on.
-    fn room<F: Fabric>(&self, fabric: &F, request: Request) -> Result<(), Refusal>
-        ensures rule { result ≡ passing (full_lanes (λ j. sent_by request.hub request.msg j request.kind) (F.Fabric.model fabric.now).lanes self.now.size.shims) tt }
-        ensures room { IfOk result (λ _. HasRoom (λ j. sent_by request.hub request.msg j request.kind) (F.Fabric.model fabric.now).lanes self.now.size.shims) }
+    fn room<F: Fabric>(&self, fabric: &F, request: Request<'_>) -> Result<(), Refusal>
+        ensures rule { result ≡ passing (full_lanes (λ j. sent_by request.entry.hub.now request.entry.msg j request.entry.kind) (F.Fabric.model fabric.now).lanes self.now.size.shims) tt }
+        ensures room { IfOk result (λ _. HasRoom (λ j. sent_by request.entry.hub.now request.entry.msg j request.entry.kind) (F.Fabric.model fabric.now).lanes self.now.size.shims) }
     {
         match (0..self.size.shims).find(|&shim| is_blocked(fabric, request, shim)) {
             Some(shim) => Err(FabricFault::Full(down_lane(shim)).into()),
@@ -54,11 +57,11 @@ impl Board {
     }
 
     // Sends each shim what it is to be sent. There is room for it, so no put is refused. A loop and no chain: each turn changes the fabric.
-    fn send<F: Fabric>(&self, fabric: &mut F, request: Request)
+    fn send<F: Fabric>(&self, fabric: &mut F, request: Request<'_>)
         requires lanes { length (F.Fabric.model fabric.old).lanes ≡ 2 * self.now.size.shims }
-        requires room { HasRoom (λ j. sent_by request.hub request.msg j request.kind) (F.Fabric.model fabric.old).lanes self.now.size.shims }
+        requires room { HasRoom (λ j. sent_by request.hub.now request.msg j request.kind) (F.Fabric.model fabric.old).lanes self.now.size.shims }
         ensures lender { F.Fabric.lender fabric.new ≡ F.Fabric.lender fabric.old }
-        ensures sent { F.Fabric.model fabric.new ≡ send_all F.Fabric.backing (λ j. sent_by request.hub request.msg j request.kind) (F.Fabric.model fabric.old) self.now.size.shims }
+        ensures sent { F.Fabric.model fabric.new ≡ send_all F.Fabric.backing (λ j. sent_by request.entry.hub.now request.entry.msg j request.entry.kind) (F.Fabric.model fabric.old) self.now.size.shims }
     {
         for shim in 0..self.size.shims {
             if let Some(answer) = request.reply(shim) {
@@ -69,10 +72,10 @@ impl Board {
 }
 
 // Whether a shim is to be sent something and its lane is full.
-fn is_blocked<F: Fabric>(fabric: &F, request: Request, shim: usize) -> bool
+fn is_blocked<F: Fabric>(fabric: &F, request: Request<'_>, shim: usize) -> bool
     requires { shim < shim_limit }
-    ensures { result ≡ (is_some (sent_by request.hub request.msg shim request.kind) && is_full (F.Fabric.model fabric.now).lanes (down_lane shim)) }
+    ensures { result ≡ (is_some (sent_by request.entry.hub.now request.entry.msg shim request.entry.kind) && is_full (F.Fabric.model fabric.now).lanes (down_lane shim)) }
 {
     let lane = down_lane(shim);
-    request.reply(shim).is_some() && fabric.waiting(lane) >= fabric.capacity(lane)
+    fabric.waiting(lane) >= fabric.capacity(lane) && request.reply(shim).is_some()
 }

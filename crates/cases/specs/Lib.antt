@@ -1,3 +1,11 @@
+pub mod BoardCases
 pub mod Bytes
 pub mod Cases
+pub mod ChipCases
+pub mod FabricCases
+pub mod HandleCases
+pub mod HubCases
 pub mod Scenes
+pub mod SheetCases
+pub mod ShimCases
+pub mod TableCases

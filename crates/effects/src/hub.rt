@@ -8,17 +8,17 @@ use rules::{HubLine, Kind, STAMP_LIMIT, asks_sync, fence_request, is_sc, mark_st
 
 // A message that the hub performs, its kind, and the hub's line that it names.
 #[derive(Clone, Copy)]
-pub struct Request {
+pub struct Request<'a> {
     pub msg: Message,
     pub kind: Kind,
-    pub hub: HubLine,
-    ghost goes: { goes_up hub (Some kind) ≡ true },
+    pub hub: &'a HubLine,
+    ghost goes: { goes_up hub.now (Some kind) ≡ true },
 }
 
-impl Request {
+impl<'a> Request<'a> {
     // What a message asks of the hub's line that it names; none where the hub does not perform it.
-    pub fn of(hub: HubLine, msg: Message) -> Option<Request>
-        ensures { MatchOption result (goes_up hub (kind_of msg.kind) ≡ false) (λ r. (r.msg ≡ msg) × (r.hub ≡ hub) × (kind_of msg.kind ≡ Some r.kind)) }
+    pub fn of(hub: &'a HubLine, msg: Message) -> Option<Request<'a>>
+        ensures { MatchOption result (goes_up hub.now (kind_of msg.kind) ≡ false) (λ r. (r.msg ≡ msg) × (r.hub.now ≡ hub.now) × (kind_of msg.kind ≡ Some r.kind)) }
     {
         let kind = Kind::try_from(msg.kind).ok()?;
         if !goes_up(hub, kind) {
@@ -29,7 +29,7 @@ impl Request {
 
     // What a shim is sent when the hub performs the message.
     pub fn reply(self, shim: usize) -> Option<Message>
-        ensures { result ≡ sent_by self.hub self.msg shim self.kind }
+        ensures { result ≡ sent_by self.entry.hub.now self.entry.msg shim self.entry.kind }
     {
         let own = self.msg.sender as usize == shim;
         match self.kind {
@@ -44,9 +44,9 @@ impl Request {
 
     // The hub's line once the message is performed.
     pub fn performed(self) -> HubLine
-        ensures { result ≡ hub_by self.hub self.msg self.kind }
+        ensures { result ≡ hub_by self.entry.hub.now self.entry.msg self.entry.kind }
     {
-        let hub = self.hub;
+        let hub = *self.hub;
         let sender = self.msg.sender as usize;
         match self.kind {
             Kind::Write => HubLine {
@@ -72,8 +72,8 @@ impl Request {
 }
 
 // Whether the hub performs messages of this kind at this line.
-fn goes_up(hub: HubLine, kind: Kind) -> bool
-    ensures { result ≡ goes_up hub (Some kind) }
+fn goes_up(hub: &HubLine, kind: Kind) -> bool
+    ensures { result ≡ goes_up hub.now (Some kind) }
 {
     match kind {
         Kind::Write => hub.stamp < STAMP_LIMIT,
@@ -83,15 +83,15 @@ fn goes_up(hub: HubLine, kind: Kind) -> bool
 }
 
 // Whether a shim shares the line.
-fn shares(hub: HubLine, shim: usize) -> bool
-    ensures { result ≡ shares hub shim }
+fn shares(hub: &HubLine, shim: usize) -> bool
+    ensures { result ≡ shares hub.now shim }
 {
     hub.sharers.get(shim).copied().unwrap_or(false)
 }
 
 // The acknowledgement that a store owes its sender: it carries the stamp before the store.
-fn write_ack(hub: HubLine, msg: Message) -> Option<Message>
-    ensures { result ≡ sent_if (owes_ack msg.mark) (ack_message hub msg) }
+fn write_ack(hub: &HubLine, msg: Message) -> Option<Message>
+    ensures { result ≡ sent_if (owes_ack msg.mark) (ack_message hub.now msg) }
 {
     let owed = asks_sync(msg.mark) || is_sc(msg.mark);
     owed.then_some(Message {
@@ -103,9 +103,9 @@ fn write_ack(hub: HubLine, msg: Message) -> Option<Message>
 }
 
 // The update that a store sends to every other sharer.
-fn update(hub: HubLine, msg: Message) -> Message
-    requires { hub.stamp < stamp_limit }
-    ensures { result ≡ update_message hub msg }
+fn update(hub: &HubLine, msg: Message) -> Message
+    requires { hub.now.stamp < stamp_limit }
+    ensures { result ≡ update_message hub.now msg }
 {
     Message {
         kind: Kind::Write.into(),
@@ -116,8 +116,8 @@ fn update(hub: HubLine, msg: Message) -> Message
 }
 
 // The word that a load waits for.
-fn read_response(hub: HubLine, msg: Message) -> Message
-    ensures { result ≡ read_message hub msg }
+fn read_response(hub: &HubLine, msg: Message) -> Message
+    ensures { result ≡ read_message hub.now msg }
 {
     Message {
         kind: Kind::ReadResponse.into(),

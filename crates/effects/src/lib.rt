@@ -5,4 +5,4 @@ mod hub;
 mod shim;
 
 pub use hub::Request;
-pub use shim::{Delivery, deliver};
+pub use shim::deliver;

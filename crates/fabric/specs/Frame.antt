@@ -1,6 +1,6 @@
--- A message as the bytes of a frame, and the bytes of a frame as a message.
-use Rattle.std.specs.Prelude.{ℕ, zero, suc, ◌+◌, ◌/◌, ◌%◌, List, [], ◌∷◌, ◌++◌, take, drop, slice_index}
-use Rattle.std.specs.Int.Digits.{number_from_digits}
+-- A message as the bytes of a frame, and the bytes of a frame as a message. Numbers have the high byte first.
+use Rattle.std.specs.Prelude.{ℕ, ◌+◌, List, ◌∷◌, ◌++◌, take, drop, slice_index}
+use Rattle.std.specs.Int.{w32, to_be_bytes, from_be_bytes}
 use Rattle.fabric.specs.declared.message.Message.{Message}
 
 -- kind, line, mark and sender take a byte each
@@ -19,22 +19,9 @@ stamp_bytes = 4
 abbrev pub frame_bytes : ℕ
 frame_bytes = header_bytes + word_bytes + stamp_bytes
 
--- a number in `width` bytes, the high byte first
-abbrev pub big_endian : ℕ → ℕ → List ℕ
-big_endian zero n = []
-big_endian (suc width) n = big_endian width (n / 256) ++ n % 256 ∷ []
-
--- the number that bytes write, the high byte first
-abbrev pub number_in : List ℕ → ℕ
-number_in bytes = number_from_digits 256 bytes
-
--- the first bytes of a message's frame
-abbrev pub header_of : Message → List ℕ
-header_of m = m.kind ∷ m.line ∷ m.mark ∷ m.sender ∷ []
-
 -- the frame of a message
 abbrev pub frame_of : Message → List ℕ
-frame_of m = header_of m ++ (big_endian word_bytes m.value ++ big_endian stamp_bytes m.stamp)
+frame_of m = m.kind ∷ m.line ∷ m.mark ∷ m.sender ∷ (to_be_bytes w32 m.value ++ to_be_bytes w32 m.stamp)
 
 -- the message of a frame
 abbrev pub message_of : List ℕ → Message
@@ -44,6 +31,6 @@ message_of frame =
       line = slice_index frame 1;
       mark = slice_index frame 2;
       sender = slice_index frame 3;
-      value = number_in (take word_bytes (drop header_bytes frame));
-      stamp = number_in (take stamp_bytes (drop (header_bytes + word_bytes) frame));
+      value = from_be_bytes w32 (take word_bytes (drop header_bytes frame));
+      stamp = from_be_bytes w32 (take stamp_bytes (drop (header_bytes + word_bytes) frame));
     }

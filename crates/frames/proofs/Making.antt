@@ -1,9 +1,9 @@
 -- A fabric just made over a buffer.
-use Rattle.std.proofs.Common.{◌≡◌, ℕ, ◌*◌, ◌/◌, ◌≤◌, true, false, ◌&&◌, leb, List, [], length, replicate, sym, refl, ◌∙◌, subst, ⊎_elim, mul-le-mul_right, div-add-mod', arith}
+use Rattle.std.proofs.Common.{◌≡◌, ℕ, ◌*◌, ◌/◌, ◌≤◌, true, false, ◌&&◌, leb, List, length, replicate, sym, refl, subst, ⊎_elim, mul-le-mul_right, div-add-mod', arith}
 use native.Mathlib.Nat.{min-le_left, min-le_right}
-use Rattle.std.proofs.lemmas.Bool.{cases_Bool, and_parts, leb-true, cond-true, cond-false}
+use Rattle.std.proofs.lemmas.Bool.{cases_Bool, and_parts, leb-true}
 use Rattle.fabric.specs.Frame.{frame_bytes}
-use Rattle.fabric.specs.Lanes.{shim_limit, lane_limit, capacity_limit, empty_lanes}
+use Rattle.fabric.specs.Lanes.{shim_limit, lane_limit, capacity_limit}
 use Rattle.queues.specs.declared.rows.Rows.{Rows}
 use Rattle.queues.specs.Rows.{RowsLawful, new_rows, firsts, row_lanes}
 use Rattle.queues.proofs.Calls.{new_lawful, new_lanes}
@@ -35,7 +35,7 @@ module _ (bs : List ℕ) (n : ℕ) where
       let whole : len / (2 * frame_bytes * n) * (2 * frame_bytes * n) ≤ len = omega (arith, div-add-mod' len (2 * frame_bytes * n)) in
       record {
         lawful = new_lawful (2 * n) c (frames_room bs) (record { lane_bound = omega arith; capacity_least = λ _. one; capacity_most = most; all_in = omega (arith, part, whole) });
-        lanes = new_lanes (2 * n) c (message_in bs) (omega arith) ∙ sym (cond-true (serves len n) (empty_lanes (2 * n) c) [] t);
+        lanes = rw t (new_lanes (2 * n) c (message_in bs) (omega arith));
         begin = refl;
       }
 
@@ -43,13 +43,10 @@ module _ (bs : List ℕ) (n : ℕ) where
   none f =
       record {
         lawful = new_lawful 0 0 (frames_room bs) (record { lane_bound = omega arith; capacity_least = λ h. absurd (omega arith); capacity_most = omega arith; all_in = omega arith });
-        lanes = sym (cond-false (serves len n) (empty_lanes (2 * n) c) [] f);
+        lanes = rw f refl;
         begin = refl;
       }
 
   -- what a check of the length makes
   pub made : (r : Rows) → r ≡ rows_for (length bs) n → Made bs n r
-  made r e = subst (λ q. Made bs n q) (sym e) (⊎_elim
-      (λ t. subst (λ q. Made bs n q) (sym (cond-true (serves len n) (new_rows (2 * n) c) (new_rows 0 0) t)) (good t))
-      (λ f. subst (λ q. Made bs n q) (sym (cond-false (serves len n) (new_rows (2 * n) c) (new_rows 0 0) f)) (none f))
-      (cases_Bool (serves len n)))
+  made r e = subst (λ q. Made bs n q) (sym e) (⊎_elim (λ t. rw t (good t)) (λ f. rw f (none f)) (cases_Bool (serves len n)))

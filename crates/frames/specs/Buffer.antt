@@ -1,13 +1,10 @@
 -- What lies behind lanes whose messages are frames in a buffer.
-use Rattle.std.specs.Prelude.{ℕ, ◌+◌, ◌*◌, ◌/◌, ◌%◌, List, ◌++◌, length, take, drop, slice_index, slice_set, refl}
+use Rattle.std.specs.Prelude.{ℕ, ◌+◌, ◌*◌, ◌/◌, List, ◌++◌, length, take, drop, refl}
 use Rattle.fabric.specs.declared.message.Message.{Message}
-use Rattle.fabric.specs.Lanes.{Lane, messages_of, capacity_of}
+use Rattle.fabric.specs.Lanes.{Lane}
 use Rattle.fabric.specs.Backing.{Backing}
 use Rattle.fabric.specs.Frame.{frame_bytes, frame_of, message_of}
-
--- the byte at which slot j of lane k begins; lane k begins with its slot 0
-abbrev pub slot_place : ℕ → ℕ → ℕ → ℕ
-slot_place capacity k j = frame_bytes * (capacity * k + j)
+use Rattle.queues.specs.Slots.{put_slot, take_first}
 
 -- the bytes of the frame that begins at byte p
 abbrev pub frame_at : List ℕ → ℕ → List ℕ
@@ -32,15 +29,11 @@ pub record Buffer : Type 0 where
 
 -- a buffer once x is put on lane k: the slot after those that wait holds its frame
 abbrev pub put_buffer : Buffer → List Lane → ℕ → Message → Buffer
-put_buffer b lanes k x =
-    record {
-      bytes = overwritten b.bytes (slot_place (capacity_of lanes k) k ((slice_index b.first k + length (messages_of lanes k)) % capacity_of lanes k)) (frame_of x);
-      first = b.first;
-    }
+put_buffer b lanes k x = record { bytes = overwritten b.bytes (frame_bytes * put_slot lanes b.first k) (frame_of x); first = b.first }
 
 -- a buffer once the first message of lane k is taken: no byte is written
 abbrev pub take_buffer : Buffer → List Lane → ℕ → Buffer
-take_buffer b lanes k = record { bytes = b.bytes; first = slice_set b.first k ((slice_index b.first k + 1) % capacity_of lanes k) }
+take_buffer b lanes k = record { bytes = b.bytes; first = take_first lanes b.first k }
 
 -- behind the lanes lies the buffer
 abbrev pub buffer_backing : Backing

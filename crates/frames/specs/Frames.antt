@@ -3,7 +3,7 @@ use Rattle.std.specs.Prelude.{ℕ, ◌*◌, cond, List, [], length, replicate}
 use Rattle.fabric.specs.Lanes.{Lane, lane_limit, empty_lanes}
 use Rattle.fabric.specs.Backing.{Model}
 use Rattle.queues.specs.Rows.{rows_model}
-pub use Rattle.frames.specs.Buffer.{slot_place, frame_at, overwritten, message_in, frames_room, Buffer, put_buffer, take_buffer, buffer_backing}
+pub use Rattle.frames.specs.Buffer.{frame_at, overwritten, message_in, frames_room, Buffer, put_buffer, take_buffer, buffer_backing}
 use Rattle.frames.specs.declared.frames.Frames.{Frames}
 use Rattle.frames.specs.Check.{serves, capacity_for}
 

@@ -1,6 +1,5 @@
 -- The handle that comes back agrees with the board that is left.
 use Rattle.std.proofs.Common.{◌≡◌, ℕ, ◌<◌, ◌≤◌, Bool, true, false, cond, not, length, Result, sym, refl, ap, ◌∙◌, subst, arith}
-use mathlib.Core.Bool.{false≢true}
 use Rattle.fabric.specs.Backing.{Backing, Model}
 use Rattle.rules.specs.Checks.{After, after}
 use Rattle.rules.specs.Evict.{evict_rule}
@@ -16,8 +15,8 @@ use Rattle.handles.specs.declared.handle.Handle.{Handle}
 use Rattle.handles.specs.declared.handle.Handle.TheVariants as handle
 use Rattle.handles.specs.declared.ready.Ready.{Ready}
 use Rattle.handles.specs.declared.waiting.Waiting.{Waiting}
-use Rattle.handles.proofs.Calls.{blames_wait, Taken, Stays, load_taken, store_taken, fence_taken, evict_taken}
-use Rattle.handles.proofs.Turns.{blames_ready, Turned, turn_taken}
+use Rattle.handles.proofs.Calls.{Taken, Stays, load_taken, store_taken, fence_taken, evict_taken}
+use Rattle.handles.proofs.Turns.{Turned, turn_taken}
 
 module _ {ω : Backing} (b b' : Board) (φ φ' : Model ω) (r : Result Answer Refusal) where
   long : b.size.shims ≤ length b.state.shims
@@ -31,7 +30,7 @@ module _ {ω : Backing} (b b' : Board) (φ φ' : Model ω) (r : Result Answer Re
     by_taken s t same taken =
         record {
           handle = λ ready. same ready ∙ sym (subst (Taken s) (sym made) (taken ready)).ready;
-          taken = λ ready e. false≢true (sym (subst (Taken s) (sym made) (taken ready)).taken ∙ ap blames_wait e);
+          taken = λ ready. (subst (Taken s) (sym made) (taken ready)).taken;
         }
 
   -- a call that may wait
@@ -62,7 +61,7 @@ module _ {ω : Backing} (b b' : Board) (φ φ' : Model ω) (r : Result Answer Re
   turn_agrees h h' back rule =
       record {
         handle = λ on_board. ap is_ready_handle back ∙ kind (wait_over r) ∙ (left_by on_board).ready;
-        taken = λ on_board waits e. false≢true (sym ((left_by on_board).taken waits) ∙ ap blames_ready e);
+        taken = λ on_board. (left_by on_board).taken;
       }
     where
       left_by : h.shim < b.size.shims → Turned b.state h.shim (after r b'.state φ')

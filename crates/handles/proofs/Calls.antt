@@ -1,5 +1,5 @@
 -- A call of a ready shim says that it waits exactly where the shim waits afterwards, and is not refused because it waited.
-use Rattle.std.proofs.Common.{◌≡◌, ℕ, ◌<◌, ◌≤◌, Bool, true, false, cond, not, leb, [], ◌∷◌, length, Ok, Err, Result, sym, refl, ap, ◌∙◌, arith, get_or-set_same, length-set}
+use Rattle.std.proofs.Common.{◌≡◌, ℕ, ◌<◌, ◌≤◌, Bool, true, false, cond, not, leb, ◌≢◌, [], ◌∷◌, length, Ok, Err, sym, refl, ap, ◌∙◌, arith, get_or-set_same, length-set}
 use mathlib.Core.Bool.{false≢true}
 use Rattle.std.proofs.lemmas.Bool.{leb-false}
 use Rattle.fabric.specs.Backing.{Backing, Model}
@@ -10,7 +10,6 @@ use Rattle.rules.specs.Load.{load_checks, load_miss, load_rule}
 use Rattle.rules.specs.State.{up_lane, is_ready, wait_at, line_at, is_held, copy_of, with_shim, with_store}
 use Rattle.rules.specs.Store.{store_checks, stored, store_accepted, store_rule}
 use Rattle.rules.specs.Strengths.{is_sc}
-use Rattle.rules.specs.declared.answer.Answer.{Answer}
 use Rattle.rules.specs.declared.answer.Answer.TheVariants.{Value}
 use Rattle.rules.specs.declared.refusal.Refusal.{Refusal}
 use Rattle.rules.specs.declared.refusal.Refusal.TheVariants.{ShimWaits}
@@ -20,15 +19,10 @@ use Rattle.rules.specs.declared.state.State.{State}
 use Rattle.rules.proofs.Passed.{Passed, unless}
 use Rattle.handles.specs.Handles.{waits}
 
--- is the call refused because the shim waits
-abbrev pub blames_wait : Result Answer Refusal → Bool
-blames_wait (Err ShimWaits) = true
-blames_wait r = false
-
 -- what a call of shim s leaves, where that shim was ready
 pub record Taken {ω : Backing} (s : ℕ) (a : After ω) : Type 0 where
   pub ready : is_ready (wait_at a.state s) ≡ not (waits a.outcome)
-  pub taken : blames_wait a.outcome ≡ false
+  pub taken : a.outcome ≢ Err ShimWaits
 
 -- .. by a call that never waits
 abbrev pub Stays : {ω : Backing} → ℕ → After ω → Type 0
@@ -40,8 +34,8 @@ replaced b {s = s} shim lt = ap (λ (y : Shim). is_ready y.wait) (get_or-set_sam
 
 module _ {ω : Backing} (z : Size) (b : State) (φ : Model ω) (s : ℕ) (long : z.shims ≤ length b.shims) (ready : is_ready (wait_at b s) ≡ true) where
   -- a refusal for another reason, and one for the wait, which does not come
-  keep : {e : Refusal} → blames_wait (Err e) ≡ false → Taken s (after (Err e) b φ)
-  keep other = record { ready = ready; taken = other }
+  keep : {e : Refusal} → e ≢ ShimWaits → Taken s (after (Err e) b φ)
+  keep other = record { ready = ready; taken = λ e. other cc }
 
   not_waited : {A : Type 0} → not (is_ready (wait_at b s)) ≡ true → A
   not_waited q = absurd (false≢true (ap not (sym ready) ∙ q))
@@ -54,33 +48,33 @@ module _ {ω : Backing} (z : Size) (b : State) (φ : Model ω) (s : ℕ) (long :
   low shim = let k = leb-false z.shims s shim in omega arith
 
   pub load_taken : (x g : ℕ) → Taken s (load_rule ω z b φ s x g)
-  load_taken x g = unless b φ (Taken s) (load_checks z b φ.lanes s x g) _ (λ q. keep refl, (λ q. keep refl, (λ q. keep refl, (λ q. keep refl, (not_waited, tt))))) accepted
+  load_taken x g = unless b φ (Taken s) (load_checks z b φ.lanes s x g) _ (λ q. keep (λ e. cc), (λ q. keep (λ e. cc), (λ q. keep (λ e. cc), (λ q. keep (λ e. cc), (not_waited, tt))))) accepted
     where
       accepted : Passed (load_checks z b φ.lanes s x g) → Taken s (cond (is_held (line_at b s x)) (after (Ok (Value (copy_of (line_at b s x)))) b φ) (load_miss ω b φ s x g))
       accepted (lanes, (shim, rest)) =
-          either (is_held (line_at b s x)) record { ready = ready; taken = refl }
-          (unless b φ (Taken s) (lane_full φ.lanes (up_lane s) ∷ []) _ (λ q. keep refl, tt) (λ k. record { ready = replaced b _ (low shim); taken = refl }))
+          either (is_held (line_at b s x)) record { ready = ready; taken = λ e. cc }
+          (unless b φ (Taken s) (lane_full φ.lanes (up_lane s) ∷ []) _ (λ q. keep (λ e. cc), tt) (λ k. record { ready = replaced b _ (low shim); taken = λ e. cc }))
 
   pub store_taken : (x g v : ℕ) → Taken s (store_rule ω z b φ s x g v)
   store_taken x g v =
       unless b φ (Taken s) (store_checks z b φ.lanes s x g) _
-      (λ q. keep refl, (λ q. keep refl, (λ q. keep refl, (λ q. keep refl, (not_waited, (λ q. keep refl, (λ q. keep refl, tt))))))) accepted
+      (λ q. keep (λ e. cc), (λ q. keep (λ e. cc), (λ q. keep (λ e. cc), (λ q. keep (λ e. cc), (not_waited, (λ q. keep (λ e. cc), (λ q. keep (λ e. cc), tt))))))) accepted
     where
       accepted : Passed (store_checks z b φ.lanes s x g) → Taken s (store_accepted ω b φ s x g v)
       accepted (lanes, (shim, rest)) =
           let lt = low shim in
-          either (is_sc g) record { ready = replaced (stored b s x v) _ (rw length-set lt); taken = refl } record { ready = replaced (with_store b) _ lt ∙ ready; taken = refl }
+          either (is_sc g) record { ready = replaced (stored b s x v) _ (rw length-set lt); taken = λ e. cc } record { ready = replaced (with_store b) _ lt ∙ ready; taken = λ e. cc }
 
   pub fence_taken : (g : ℕ) → Taken s (fence_rule ω z b φ s g)
   fence_taken g =
-      unless b φ (Taken s) (fence_checks z b φ.lanes s g) _ (λ q. keep refl, (λ q. keep refl, (λ q. keep refl, (not_waited, (λ q. keep refl, tt)))))
-      (λ (lanes, (shim, rest)). record { ready = replaced b _ (low shim); taken = refl })
+      unless b φ (Taken s) (fence_checks z b φ.lanes s g) _ (λ q. keep (λ e. cc), (λ q. keep (λ e. cc), (λ q. keep (λ e. cc), (not_waited, (λ q. keep (λ e. cc), tt)))))
+      (λ (lanes, (shim, rest)). record { ready = replaced b _ (low shim); taken = λ e. cc })
 
   pub evict_taken : (x : ℕ) → Stays s (evict_rule ω z b φ s x)
   evict_taken x =
       unless b φ (Stays s) (evict_checks z b φ.lanes s x) _
-      (λ q. stay refl, (λ q. stay refl, (λ q. stay refl, (not_waited, (λ q. stay refl, (λ q. stay refl, (λ q. stay refl, tt)))))))
-      (λ k. (record { ready = replaced b _ (low k.1.0) ∙ ready; taken = refl }, refl))
+      (λ q. stay (λ e. cc), (λ q. stay (λ e. cc), (λ q. stay (λ e. cc), (not_waited, (λ q. stay (λ e. cc), (λ q. stay (λ e. cc), (λ q. stay (λ e. cc), tt)))))))
+      (λ k. (record { ready = replaced b _ (low k.1.0) ∙ ready; taken = λ e. cc }, refl))
     where
-      stay : {e : Refusal} → blames_wait (Err e) ≡ false → Stays s (after (Err e) b φ)
+      stay : {e : Refusal} → e ≢ ShimWaits → Stays s (after (Err e) b φ)
       stay other = (keep other, refl)

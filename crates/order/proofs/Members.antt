@@ -1,12 +1,12 @@
 -- The places that stand in the order, and for each the entry or the hit that its call is.
 use Rattle.std.proofs.Common.{◌≡◌, ℕ, ◌<◌, Bool, true, false, ltb, ◌⊎◌, List, length, is_ok, Some, None, Ok, Err, Option, sym, refl, ap, ◌∙◌, subst, inl, inr, arith}
 use mathlib.Core.Bool.{false≢true}
-use Rattle.std.specs.Prelude.{◌≢◌, slice_get}
+use Rattle.std.specs.Prelude.{slice_get}
 use Rattle.std.proofs.lemmas.Bool.{cases_order, cases_eq, eq-eqb, lt-ltb, ltb-true}
 use Rattle.rules.specs.declared.strength.Strength.TheVariants.{SeqCst}
 use Rattle.rules.specs.Strengths.{strength_number}
-use Rattle.order.specs.Common.{Call, Load, Store, Fence, Down, Outcome, Waits, Value, Ended, Trace, At, shim_of, sends}
-use Rattle.order.specs.Common.{Stored, Wrote, at_once, later, Stands, a_store, a_load, a_fence}
+use Rattle.order.specs.Common.{Call, Load, Store, Fence, Down, Outcome, Waits, Value, Trace, At, shim_of, sends}
+use Rattle.order.specs.Common.{Stored, IsWeakStore, Fenced, at_once, later, Stands, a_store, a_load, a_fence}
 use Rattle.order.proofs.Machine.{Write, Read, Sync, ForStore, wait_after, Board}
 use Rattle.order.proofs.Lists.{onto, Compared, Member, Spot, spot_member, suffix_spot, member_onto}
 use Rattle.order.proofs.Entries.{FoundBy, Entry, made_by, member_made_by}
@@ -60,10 +60,6 @@ module _ {n : ℕ} {t : Trace} {b : Board} (i : Invariant n t b) where
 
   -- ## a store
 
-  -- an accepted store of shim s that is not SC
-  abbrev pub StoredWeakly : ℕ → ℕ → Type 0
-  StoredWeakly p s = (x : ℕ) × (g : ℕ) × Stored t p s x g × g ≢ strength_number SeqCst
-
   pub record StoreAt (p s x : ℕ) : Type 0 where
     pub low : s < n
     pub entry : Entry
@@ -71,11 +67,11 @@ module _ {n : ℕ} {t : Trace} {b : Board} (i : Invariant n t b) where
     pub place_is : entry.place ≡ p
     pub word : ℕ
     pub writes : EntryWrites entry x word
-    pub strength : Awaited entry.request ⊎ StoredWeakly p s
+    pub strength : Awaited entry.request ⊎ IsWeakStore t p s
     pub member_order : Member p the_order
 
-  pub store_at : (p s x g : ℕ) → Stored t p s x g → StoreAt p s x
-  store_at p s x g (w, a, h) =
+  pub store_at : (p s x w : ℕ) → Stored t p s x w → StoreAt p s x
+  store_at p s x w (g, a, h) =
       let l = i.global.known p (Store s x g w) (Ok a) h refl in
       let q = (i.shim s l).sent.into p (Store s x g w) (Ok a) h refl refl in
       record {
@@ -90,18 +86,16 @@ module _ {n : ℕ} {t : Trace} {b : Board} (i : Invariant n t b) where
       }
     where
       weak_or_not : (e : Entry) (k : Bool) → e.request ≡ Write x g k w → (g ≡ strength_number SeqCst) ⊎ (g ≡ strength_number SeqCst → ⊥)
-          → Awaited e.request ⊎ StoredWeakly p s
+          → Awaited e.request ⊎ IsWeakStore t p s
       weak_or_not e k q (inl z) = inl (λ y. false≢true (ap is_ready (sym (ap wait_after q ∙ sc k z) ∙ y)))
         where
           sc : (k : Bool) → g ≡ strength_number SeqCst → wait_after (Write x g k w) ≡ ForStore x
           sc k z = rw (eq-eqb g (strength_number SeqCst) z)
-      weak_or_not e k q (inr z) = inr (x, g, (w, a, h), z)
+      weak_or_not e k q (inr z) = inr (x, g, w, a, h, z)
 
   -- an entry that writes is a store in the trace
   pub record EntryStores (s x w : ℕ) (e : Entry) : Type 0 where
-    pub strength : ℕ
-    pub stored : Stored t e.place s x strength
-    pub wrote : Wrote t e.place w
+    pub stored : Stored t e.place s x w
     pub member_order : Member e.place the_order
 
   pub call_stores : (s : ℕ) → s < n → (e : Entry) (q : List Entry) (x w : ℕ) → Spot e q (calls_of i s) → EntryWrites e x w → EntryStores s x w e
@@ -113,15 +107,15 @@ module _ {n : ℕ} {t : Trace} {b : Board} (i : Invariant n t b) where
       finish y.0 h.outcome (subst (λ (u : Call). At t e.place u h.outcome) c' h.at) (subst (λ (u : Call). sends u h.outcome ≡ true) c' h.sends_it)
     where
       finish : (g : ℕ) (r : Outcome) → At t e.place (Store s x g w) r → sends (Store s x g w) r ≡ true → EntryStores s x w e
-      finish g (Ok a) h k = record { strength = g; stored = (w, a, h); wrote = (s, x, g, a, h); member_order = in_order e.place (Store s x g w) (Ok a) h refl }
+      finish g (Ok a) h k = record { stored = (g, a, h); member_order = in_order e.place (Store s x g w) (Ok a) h refl }
       finish g (Err r) h k = absurd (false≢true k)
 
   pub log_stores : (e : Entry) (q : List Entry) (x w : ℕ) → Spot e q i.log → EntryWrites e x w → EntryStores e.who x w e
   log_stores e q x w k wr = call_stores e.who (i.global.known_shim e q k) e (made_by e.who q) x w (log_call i e.who e q k refl) wr
 
   -- a store that the hub performed is an entry of the log that writes
-  pub stores_writes : (p s x g : ℕ) → Stored t p s x g → (d : Entry) (q : List Entry) → Spot d q i.log → d.place ≡ p → (v : ℕ) × EntryWrites d x v
-  stores_writes p s x g (w, a, h) d q k e =
+  pub stores_writes : (p s x w : ℕ) → Stored t p s x w → (d : Entry) (q : List Entry) → Spot d q i.log → d.place ≡ p → (v : ℕ) × EntryWrites d x v
+  stores_writes p s x w (g, a, h) d q k e =
       let l = i.global.known_shim d q k in
       let f = (i.shim d.who l).sent.from d (made_by d.who q) (log_call i d.who d q k refl) in
       let c = at_same t p (at_moved t e f.at) h in
@@ -198,8 +192,8 @@ module _ {n : ℕ} {t : Trace} {b : Board} (i : Invariant n t b) where
     pub request_is : entry.request ≡ Sync
     pub member_order : Member p the_order
 
-  pub fence_at : (p s g d : ℕ) → At t p (Fence s g) (Ok Waits) → p < d → At t d (Down s) (Ok Ended) → FenceAt p s
-  fence_at p s g d h l hd =
+  pub fence_at : (p s : ℕ) → Fenced t p s → FenceAt p s
+  fence_at p s (g, d, h, l, hd) =
       let lo = i.global.known p (Fence s g) (Ok Waits) h refl in
       let q = (i.shim s lo).sent.into p (Fence s g) (Ok Waits) h refl refl in
       let m = spot_member q.entry q.older (calls_of i s) q.spot in
@@ -266,11 +260,11 @@ module _ {n : ℕ} {t : Trace} {b : Board} (i : Invariant n t b) where
       let w = next_word s y.low y.entry y.older x g p y.spot y.who_is y.request_is y.place_is in
       (s, a_load x (hub_word x y.older) (later g w.down h w.later w.at w.first))
   stands_is p (Load s x g) (Ok (Value w)) h q = (s, a_load x w (at_once g h))
-  stands_is p (Store s x g w) (Ok a) h q = (s, a_store x g (w, a, h))
+  stands_is p (Store s x g w) (Ok a) h q = (s, a_store x w (g, a, h))
   stands_is p (Fence s g) (Ok Waits) h q =
       let y = heard_at p (Fence s g) (Ok Waits) h refl q in
       let w = subst (λ (r : ℕ). SomeEnd t r s) y.place_is ((i.shim s y.low).answered.fences y.entry y.older y.spot y.who_is y.request_is) in
-      (s, a_fence g w.down h w.later w.at)
+      (s, a_fence (g, w.down, h, w.later, w.at))
   stands_is p c a h q = absurd (false≢true q)
 
   pub order_only : (p : ℕ) → Member p the_order → (s : ℕ) × Stands t p s
@@ -285,4 +279,4 @@ module _ {n : ℕ} {t : Trace} {b : Board} (i : Invariant n t b) where
   order_all p s (a_store x g h) = (store_at p s x g h).member_order
   order_all p s (a_load x w (at_once g h)) = (hit_at p s x w g h).member_order
   order_all p s (a_load x w (later g d h l k f)) = (read_at p s x w g d h l k f).member_order
-  order_all p s (a_fence g d h l k) = (fence_at p s g d h l k).member_order
+  order_all p s (a_fence h) = (fence_at p s h).member_order

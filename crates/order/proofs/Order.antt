@@ -5,7 +5,7 @@ use mathlib.Core.Option.{some}
 use Rattle.std.proofs.lemmas.Bool.{cases_eq, cases_order}
 use Rattle.std.specs.Prelude.{Contains, ⊤}
 use Rattle.order.specs.Common.{Load, Up, Value, Trace, At, shim_of, sends, performs, count, Performs, Performed, HubBefore, Stored, Gave, at_once, later, Stands, a_store, a_load, a_fence}
-use Rattle.order.specs.Common.{Before, Last, Sees, MayPrecede, CommonOrder}
+use Rattle.order.specs.Common.{Before, LastWord, EveryStore, Sees, IsWeakStore, MayPrecede, CommonOrder}
 use Rattle.order.proofs.Machine.{Read, Board, wait_after, copy, end_of, OrderStands}
 use Rattle.order.proofs.Lists.{Compared, Member, Spot, spot_member, member_spot, spot_short, spot_depth, spot_deeper, spot_behind, Suffix, suffix_short, suffix_spot, suffix_deep}
 use Rattle.order.proofs.Lists.{onto}
@@ -18,7 +18,7 @@ use Rattle.order.proofs.Writes.{EntryWrites, read_writes_not, copy_view, WordFro
 use Rattle.order.proofs.Hits.{Hit, OwnStore, HubStore, HitOk}
 use Rattle.order.proofs.Invariant.{Invariant, invariant}
 use Rattle.order.proofs.Keys.{Placed, call_key, hit_key, key, calls_of, log_call, key_log, key_pending, key_hit, Status, performed, waiting, status, own_order}
-use Rattle.order.proofs.Members.{the_order, order_rising, StoredWeakly, StoreAt, store_at, EntryStores, call_stores, log_stores, stores_writes, ReadAt, read_at, fence_at, hit_at}
+use Rattle.order.proofs.Members.{the_order, order_rising, StoreAt, store_at, EntryStores, call_stores, log_stores, stores_writes, ReadAt, read_at, fence_at, hit_at}
 use Rattle.order.proofs.Members.{order_only, order_all}
 
 module _ {n : ℕ} {t : Trace} {b : Board} (i : Invariant n t b) where
@@ -87,10 +87,10 @@ module _ {n : ℕ} {t : Trace} {b : Board} (i : Invariant n t b) where
       let kc = key_log i c.entry c.older q c.spot c.place_is in
       by_keys p q (contained_member o p ip) (contained_member o q iq) (inl (omega (arith, ka, kc, a.rank, c.rank, m)))
 
-  unperformed_last : (p q s x g : ℕ) → Contains o p → Performed t p → Stored t q s x g → ¬ Performed t q → Before o p q
-  unperformed_last p q s x g ip (u, hp) h not_performed =
+  unperformed_last : (p q s x w : ℕ) → Contains o p → Performed t p → Stored t q s x w → ¬ Performed t q → Before o p q
+  unperformed_last p q s x w ip (u, hp) h not_performed =
       let a = performed_at u p hp in
-      let c = store_at i q s x g h in
+      let c = store_at i q s x w h in
       go c (key_log i a.entry a.older p a.spot a.place_is) (spot_short a.entry a.older i.log a.spot) (status i s c.entry c.member)
     where
       go : (c : StoreAt i q s x) {r : ℕ} → key i p ≡ call_key r → r < length i.log → Status i s c.entry → Before o p q
@@ -102,16 +102,16 @@ module _ {n : ℕ} {t : Trace} {b : Board} (i : Invariant n t b) where
 
   pub data Standing (p s : ℕ) : Type 0 where
     by_hit : (h : Hit) → Member h i.hits → h.place ≡ p → h.who ≡ s → Standing p s
-    by_call : (e : Entry) → Member e (calls_of i s) → e.place ≡ p → Awaited e.request ⊎ StoredWeakly i p s → Standing p s
+    by_call : (e : Entry) → Member e (calls_of i s) → e.place ≡ p → Awaited e.request ⊎ IsWeakStore t p s → Standing p s
 
   standing : (p s : ℕ) → Stands t p s → Standing p s × (s < n)
-  standing p s (a_store x g h) = let c = store_at i p s x g h in (by_call c.entry c.member c.place_is c.strength, c.low)
+  standing p s (a_store x w h) = let c = store_at i p s x w h in (by_call c.entry c.member c.place_is c.strength, c.low)
   standing p s (a_load x w (at_once g h)) = let c = hit_at i p s x w g h in (by_hit c.was.hit c.was.member c.was.place_is c.was.who_is, c.low)
   standing p s (a_load x w (later g d h l k f)) =
       let c = read_at i p s x w g d h l k f in
       (by_call c.entry c.member c.place_is (inl (λ y. false≢true (ap is_ready (sym (ap wait_after c.request_is) ∙ y)))), c.low)
-  standing p s (a_fence g d h l k) =
-      let c = fence_at i p s g d h l k in
+  standing p s (a_fence h) =
+      let c = fence_at i p s h in
       (by_call c.entry c.member c.place_is (inl (λ y. false≢true (ap is_ready (sym (ap wait_after c.request_is) ∙ y)))), c.low)
 
   hits_order : (h h' : Hit) → Member h i.hits → Member h' i.hits → h.place < h'.place → h.who ≡ h'.who → length h.seen ≤ length h'.seen
@@ -164,19 +164,19 @@ module _ {n : ℕ} {t : Trace} {b : Board} (i : Invariant n t b) where
   -- where the stores to line x in P are those of a part p of the log, the last of them wrote the hub's word after p
   last_in : (P : ℕ → ℕ → Type 0) (x w : ℕ) (p : List Entry) → ((e : Entry) (r : List Entry) → Spot e r p → Spot e r i.log) → w ≡ hub_word x p
       → ((e : Entry) (r : List Entry) (v : ℕ) → Spot e r p → EntryWrites e x v → P e.place e.who)
-      → ((k s g : ℕ) → Stored t k s x g → P k s → Placed p k)
-      → Last t o P x w
+      → ((k s v : ℕ) → Stored t k s x v → P k s → Placed p k)
+      → LastWord t o P x w
   last_in P x w p sub e visible covered = go (last_write x p)
     where
-      go : WordFrom x p → Last t o P x w
+      go : WordFrom x p → LastWord t o P x w
       go (inr h) = inr (none, e ∙ h.1)
         where
-          none : (k s g : ℕ) → Stored t k s x g → P k s → ⊥
-          none k s g y pk =
-              let d = covered k s g y pk in
-              let v = stores_writes i k s x g y d.entry d.older (sub d.entry d.older d.spot) d.place_is in
+          none : (k s v : ℕ) → Stored t k s x v → P k s → ⊥
+          none k s u y pk =
+              let d = covered k s u y pk in
+              let v = stores_writes i k s x u y d.entry d.older (sub d.entry d.older d.spot) d.place_is in
               h.0 d.entry d.older v.0 d.spot v.1
-      go (inl h) = inl (h.entry.place, h.entry.who, st.strength, st.stored, visible h.entry h.older (hub_word x p) h.spot h.writes, rw e st.wrote, others)
+      go (inl h) = inl (h.entry.place, h.entry.who, rw e st.stored, visible h.entry h.older (hub_word x p) h.spot h.writes, others)
         where
           spot : Spot h.entry h.older i.log
           spot = sub h.entry h.older h.spot
@@ -184,8 +184,8 @@ module _ {n : ℕ} {t : Trace} {b : Board} (i : Invariant n t b) where
           st : EntryStores i h.entry.who x (hub_word x p) h.entry
           st = log_stores i h.entry h.older x (hub_word x p) spot h.writes
 
-          others : (k s g : ℕ) → Stored t k s x g → P k s → k ≡ h.entry.place ⊎ Before o k h.entry.place
-          others k s g y pk = compare (covered k s g y pk)
+          others : (k s v : ℕ) → Stored t k s x v → P k s → k ≡ h.entry.place ⊎ Before o k h.entry.place
+          others k s u y pk = compare (covered k s u y pk)
             where
               compare : Placed p k → k ≡ h.entry.place ⊎ Before o k h.entry.place
               compare d = cases (cases_order (length d.older) (length h.older))
@@ -198,9 +198,9 @@ module _ {n : ℕ} {t : Trace} {b : Board} (i : Invariant n t b) where
                   cases (inr (inl c)) =
                       let kd = key_log i d.entry d.older k dl d.place_is in
                       let kh = key_log i h.entry h.older h.entry.place spot refl in
-                      inr (by_keys k h.entry.place (store_at i k s x g y).member_order st.member_order (inl (omega (arith, kd, kh))))
+                      inr (by_keys k h.entry.place (store_at i k s x u y).member_order st.member_order (inl (omega (arith, kd, kh))))
                   cases (inr (inr c)) =
-                      let v = stores_writes i k s x g y d.entry d.older dl d.place_is in
+                      let v = stores_writes i k s x u y d.entry d.older dl d.place_is in
                       absurd (omega (arith, h.latest d.entry d.older v.0 d.spot v.1))
 
   -- ### no message waits
@@ -212,20 +212,20 @@ module _ {n : ℕ} {t : Trace} {b : Board} (i : Invariant n t b) where
       go [] h = refl
       go (e ∷ p) h = let z : ◌≡◌ {A = ℕ} 0 1 = cc in absurd (omega arith)
 
-  quiet_last : (end_of n b).Quiet → (x w : ℕ) → w ≡ hub_word x i.log → Last t o (λ k s. ⊤) x w
-  quiet_last quiet x w e = last_in (λ k s. ⊤) x w i.log (λ d r k. k) e (λ d r v k h. tt) covered
+  quiet_last : (end_of n b).Quiet → (x w : ℕ) → w ≡ hub_word x i.log → LastWord t o EveryStore x w
+  quiet_last quiet x w e = last_in EveryStore x w i.log (λ d r k. k) e (λ d r v k h. tt) covered
     where
-      covered : (k s g : ℕ) → Stored t k s x g → ⊤ → Placed i.log k
-      covered k s g h y = let c = store_at i k s x g h in go c (status i s c.entry c.member)
+      covered : (k s v : ℕ) → Stored t k s x v → ⊤ → Placed i.log k
+      covered k s u h y = let c = store_at i k s x u h in go c (status i s c.entry c.member)
         where
           go : (c : StoreAt i k s x) → Status i s c.entry → Placed i.log k
           go c (performed r m w) = record { entry = c.entry; older = r; spot = m; place_is = c.place_is }
           go c (waiting m) = absurd (let y : Member c.entry [] = rw (quiet_pending quiet s c.low) at m in y)
 
-  words : (end_of n b).Quiet → (x w : ℕ) → b.word x ≡ w → Last t o (λ k s. ⊤) x w
+  words : (end_of n b).Quiet → (x w : ℕ) → b.word x ≡ w → LastWord t o EveryStore x w
   words quiet x w h = quiet_last quiet x w (sym h ∙ i.hub.word x)
 
-  copies : (end_of n b).Quiet → (s x w : ℕ) → (s < n) × copy (b.line s x) ≡ some w → Last t o (λ k s. ⊤) x w
+  copies : (end_of n b).Quiet → (s x w : ℕ) → (s < n) × copy (b.line s x) ≡ some w → LastWord t o EveryStore x w
   copies quiet s x w (l, c) =
       let f = (i.shim s l).follows in
       let v = i.view s in
@@ -265,7 +265,7 @@ module _ {n : ℕ} {t : Trace} {b : Board} (i : Invariant n t b) where
       go (waiting h) (inl a) = absurd (omega (arith, kp h, kj, spot_short e r i.log m))
       go (waiting h) (inr a) = absurd (omega (arith, kp h, kj, spot_short e r i.log m, a.0))
 
-  late_load : (j s x w : ℕ) → ReadAt i j s x w → Last t o (Sees o j s) x w
+  late_load : (j s x w : ℕ) → ReadAt i j s x w → LastWord t o (Sees o j s) x w
   late_load j s x w c = last_in (Sees o j s) x w c.older sub c.word_is (visible_in j s x c.older c.member_order sub (λ r l. omega (arith, kj))) covered
     where
       kj : key i j ≡ call_key (length c.older)
@@ -277,10 +277,10 @@ module _ {n : ℕ} {t : Trace} {b : Board} (i : Invariant n t b) where
       reads : (k s' : ℕ) → StoreAt i k s' x → Lex (key i) k j → Placed c.older k
       reads k s' a lex = covered_by_read k s' x j c.entry c.older x c.strength c.spot c.request_is kj a lex
 
-      covered : (k s' g : ℕ) → Stored t k s' x g → Sees o j s k s' → Placed c.older k
-      covered k s' g h (inl y) = reads k s' (store_at i k s' x g h) (keys_of k j y)
-      covered k s' g h (inr (own, l)) =
-          let a = store_at i k s x g (rw own at h) in
+      covered : (k s' v : ℕ) → Stored t k s' x v → Sees o j s k s' → Placed c.older k
+      covered k s' u h (inl y) = reads k s' (store_at i k s' x u h) (keys_of k j y)
+      covered k s' u h (inr (own, l)) =
+          let a = store_at i k s x u (rw own at h) in
           reads k s a (own_order i s c.low a.entry c.entry k j a.member c.member a.place_is c.place_is l)
 
   -- a store that stands before a hit is in what the hit has seen
@@ -298,7 +298,7 @@ module _ {n : ℕ} {t : Trace} {b : Board} (i : Invariant n t b) where
       go (waiting y) (inr a) = absurd (omega (arith, key_pending i s c.low c.entry k y c.place_is, kj, suffix_short h.seen i.log tl, a.0))
 
   -- a load answered at once reads its chip's own last store, where the chip has not heard of it yet, or else the last store that it has heard of
-  hit_load : (h : Hit) (s : ℕ) → s < n → Member h i.hits → h.who ≡ s → Member h.place o → Last t o (Sees o h.place s) h.line h.word
+  hit_load : (h : Hit) (s : ℕ) → s < n → Member h i.hits → h.who ≡ s → Member h.place o → LastWord t o (Sees o h.place s) h.line h.word
   hit_load h s l m w mo = go (hit_ok h s m w l).value
     where
       tl : Suffix h.seen i.log
@@ -307,7 +307,7 @@ module _ {n : ℕ} {t : Trace} {b : Board} (i : Invariant n t b) where
       kj : key i h.place ≡ hit_key (length h.seen)
       kj = key_hit i h h.place m refl
 
-      hub : HubStore (calls_of i s) h → Last t o (Sees o h.place s) h.line h.word
+      hub : HubStore (calls_of i s) h → LastWord t o (Sees o h.place s) h.line h.word
       hub y =
           let visible = visible_in h.place s h.line h.seen mo sub (λ r l. omega (arith, kj)) in
           last_in (Sees o h.place s) h.line h.word h.seen sub y.word_is visible covered
@@ -315,18 +315,18 @@ module _ {n : ℕ} {t : Trace} {b : Board} (i : Invariant n t b) where
           sub : (d : Entry) (q : List Entry) → Spot d q h.seen → Spot d q i.log
           sub d q k = suffix_spot d q h.seen i.log tl k
 
-          covered : (k s' g : ℕ) → Stored t k s' h.line g → Sees o h.place s k s' → Placed h.seen k
-          covered k s' g a (inl z) =
-              let c = store_at i k s' h.line g a in
+          covered : (k s' v : ℕ) → Stored t k s' h.line v → Sees o h.place s k s' → Placed h.seen k
+          covered k s' u a (inl z) =
+              let c = store_at i k s' h.line u a in
               let f = covered_by_hit k s' h.line h m tl c (keys_of k h.place z) in
               record { entry = c.entry; older = f.0; spot = suffix_deep c.entry f.0 h.seen i.log tl f.1.0 f.1.1; place_is = c.place_is }
-          covered k s' g a (inr (own, z)) =
-              let c = store_at i k s h.line g (rw own at a) in
+          covered k s' u a (inr (own, z)) =
+              let c = store_at i k s h.line u (rw own at a) in
               let f = y.heard c.entry c.word c.member (rw c.place_is z) c.writes in
               record { entry = c.entry; older = f.0; spot = f.1; place_is = c.place_is }
 
-      own_store : OwnStore i.log (calls_of i s) h → Last t o (Sees o h.place s) h.line h.word
-      own_store y = inl (y.entry.place, s, st.strength, st.stored, inr (refl, y.earlier), st.wrote, others)
+      own_store : OwnStore i.log (calls_of i s) h → LastWord t o (Sees o h.place s) h.line h.word
+      own_store y = inl (y.entry.place, s, st.stored, inr (refl, y.earlier), others)
         where
           st : EntryStores i s h.line h.word y.entry
           st = let q = member_spot y.entry (calls_of i s) y.member in call_stores i s l y.entry q.0 h.line h.word q.1 y.writes
@@ -335,14 +335,14 @@ module _ {n : ℕ} {t : Trace} {b : Board} (i : Invariant n t b) where
           far kp lt (performed q k u) = inl (omega (arith, kp, key_log i y.entry q y.entry.place k refl, y.unheard q k))
           far kp lt (waiting k) = inl (omega (arith, kp, key_pending i s l y.entry y.entry.place k refl, suffix_short h.seen i.log tl))
 
-          others : (k s' g : ℕ) → Stored t k s' h.line g → Sees o h.place s k s' → k ≡ y.entry.place ⊎ Before o k y.entry.place
-          others k s' g a (inl z) =
-              let c = store_at i k s' h.line g a in
+          others : (k s' v : ℕ) → Stored t k s' h.line v → Sees o h.place s k s' → k ≡ y.entry.place ⊎ Before o k y.entry.place
+          others k s' u a (inl z) =
+              let c = store_at i k s' h.line u a in
               let f = covered_by_hit k s' h.line h m tl c (keys_of k h.place z) in
               let lex = far (key_log i c.entry f.0 k f.1.0 c.place_is) f.1.1 (status i s y.entry y.member) in
               inr (by_keys k y.entry.place c.member_order st.member_order lex)
-          others k s' g a (inr (own, z)) =
-              let c = store_at i k s h.line g (rw own at a) in
+          others k s' u a (inr (own, z)) =
+              let c = store_at i k s h.line u (rw own at a) in
               compare c (y.latest c.entry c.word c.member (rw c.place_is z) c.writes) (cases_eq k y.entry.place)
             where
               compare : (c : StoreAt i k s h.line) → c.entry.place ≤ y.entry.place → (k ≡ y.entry.place) ⊎ (k ≡ y.entry.place → ⊥)
@@ -353,18 +353,18 @@ module _ {n : ℕ} {t : Trace} {b : Board} (i : Invariant n t b) where
                   let lex = own_order i s l c.entry y.entry k y.entry.place c.member y.member c.place_is refl lt in
                   inr (by_keys k y.entry.place c.member_order st.member_order lex)
 
-      go : OwnStore i.log (calls_of i s) h ⊎ HubStore (calls_of i s) h → Last t o (Sees o h.place s) h.line h.word
+      go : OwnStore i.log (calls_of i s) h ⊎ HubStore (calls_of i s) h → LastWord t o (Sees o h.place s) h.line h.word
       go (inl y) = own_store y
       go (inr y) = hub y
 
-  loads : (j s x w : ℕ) → Gave t j s x w → Last t o (Sees o j s) x w
+  loads : (j s x w : ℕ) → Gave t j s x w → LastWord t o (Sees o j s) x w
   loads j s x w (at_once g h) =
       let c = hit_at i j s x w g h in
       let y = c.was in
       moved y.hit y.place_is y.line_is y.word_is (λ mo. hit_load y.hit s c.low y.member y.who_is mo) c.member_order
     where
-      moved : (d : Hit) → d.place ≡ j → d.line ≡ x → d.word ≡ w → (Member d.place o → Last t o (Sees o d.place s) d.line d.word) → Member j o
-          → Last t o (Sees o j s) x w
+      moved : (d : Hit) → d.place ≡ j → d.line ≡ x → d.word ≡ w → (Member d.place o → LastWord t o (Sees o d.place s) d.line d.word) → Member j o
+          → LastWord t o (Sees o j s) x w
       moved d p q r f mo = rw (← p, ← q, ← r) (f (rw p mo))
   loads j s x w (later g d h l k f) = late_load j s x w (read_at i j s x w g d h l k f)
 

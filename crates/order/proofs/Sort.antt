@@ -133,7 +133,7 @@ pub contained_member : (o : List ℕ) (i : ℕ) → Contains o i → Member i o
 contained_member o i h = contained_at o i h.0 h.1 h.2
 
 -- a member has a position
-placed : (o : List ℕ) (i : ℕ) → Member i o → (p : ℕ) × (slice_get o p ≡ Some i)
+pub placed : (o : List ℕ) (i : ℕ) → Member i o → (p : ℕ) × (slice_get o p ≡ Some i)
 placed [] i m = elim m [ ]
 placed (j ∷ o) i (inl e) = (0, ap Some (sym e))
 placed (j ∷ o) i (inr m) = let r = placed o i m in (suc r.0, r.1)

@@ -99,45 +99,41 @@ impl Oven {
     }
 
     pub(crate) fn load(&mut self, chip: Chip, line: Line) -> Chip {
-        let (role, handle) = chip.parts();
-        match handle {
-            Some(Handle::Ready(ready)) => {
-                let (handle, outcome) = ready.load(
-                    &mut self.board,
-                    &mut self.lanes,
-                    line.number(),
-                    line.load_strength(),
-                );
-                self.after(role, Deed::Load(role, line), handle, outcome)
-            }
-            // A chip that waits, or has no handle, makes no call.
-            handle => Chip::idle(role, handle),
-        }
+        let deed = Deed::Load(chip.role, line);
+        self.ask(chip, deed, |ready, board, lanes| {
+            ready.load(board, lanes, line.number(), line.load_strength())
+        })
     }
 
     pub(crate) fn store(&mut self, chip: Chip, line: Line, word: Word) -> Chip {
-        let (role, handle) = chip.parts();
-        match handle {
-            Some(Handle::Ready(ready)) => {
-                let (handle, outcome) = ready.store(
-                    &mut self.board,
-                    &mut self.lanes,
-                    line.number(),
-                    line.store_strength(),
-                    word,
-                );
-                self.after(role, Deed::Store(role, line, word), handle, outcome)
-            }
-            handle => Chip::idle(role, handle),
-        }
+        let deed = Deed::Store(chip.role, line, word);
+        self.ask(chip, deed, |ready, board, lanes| {
+            ready.store(board, lanes, line.number(), line.store_strength(), word)
+        })
     }
 
     pub(crate) fn evict(&mut self, chip: Chip, line: Line) -> Chip {
+        let deed = Deed::Evict(chip.role, line);
+        self.ask(chip, deed, |ready, board, lanes| {
+            let (ready, outcome) = ready.evict(board, lanes, line.number());
+            (Handle::Ready(ready), outcome)
+        })
+    }
+
+    // A chip with a ready handle makes the call. One that waits, or has no handle, makes none.
+    fn ask<C: FnOnce(Ready, &mut Board, &mut Stage<Ring>) -> (Handle, Outcome)>(
+        &mut self,
+        chip: Chip,
+        deed: Deed,
+        call: C,
+    ) -> Chip
+        requires { C.IsAlwaysCallable call }
+    {
         let (role, handle) = chip.parts();
         match handle {
             Some(Handle::Ready(ready)) => {
-                let (ready, outcome) = ready.evict(&mut self.board, &mut self.lanes, line.number());
-                self.after(role, Deed::Evict(role, line), Handle::Ready(ready), outcome)
+                let (handle, outcome) = call(ready, &mut self.board, &mut self.lanes);
+                self.after(role, deed, handle, outcome)
             }
             handle => Chip::idle(role, handle),
         }

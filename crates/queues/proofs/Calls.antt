@@ -15,8 +15,8 @@ use Rattle.fabric.proofs.Queue.{queue_length, queue_put, queue_same, queue_take,
 use Rattle.fabric.proofs.Tables as tables
 use Rattle.queues.specs.declared.rows.Span.{Span}
 use Rattle.queues.specs.declared.rows.Rows.{Rows}
-use Rattle.queues.specs.Slots.{Puts, Takes, slot_after}
-use Rattle.queues.specs.Rows.{no_span, span_of, with_span, put_span, take_span, new_rows, place, next_place, firsts, row_lane, row_lanes, rows_model, Fit, RowsLawful}
+use Rattle.queues.specs.Slots.{Puts, Takes, put_slot, take_first}
+use Rattle.queues.specs.Rows.{no_span, span_of, with_span, put_span, take_span, new_rows, place, firsts, row_lane, row_lanes, rows_model, Fit, RowsLawful}
 
 -- a slot of an earlier lane lies before
 lower : (c k j k' j' : ℕ) → k < k' → j < c → c * k + j < c * k' + j'
@@ -103,7 +103,7 @@ module _ (r : Rows) (room : ℕ) (held : ℕ → Message) (ok : RowsLawful r roo
   empty_take e = tables.empty_take r.lanes (row_lane r held) k in_range (ap (λ m. queue (at k) c s.first m) e ∙ queue_none (at k) c s.first)
 
   -- the next slot comes to hold x, and no other of the lanes' slots changes
-  module _ (space : (span_of r k).waiting < r.capacity) (x : Message) (held' : ℕ → Message) (slot : ℕ) (next : slot ≡ next_place r k)
+  module _ (space : (span_of r k).waiting < r.capacity) (x : Message) (held' : ℕ → Message) (slot : ℕ) (next : slot ≡ place r k ((span_of r k).first + (span_of r k).waiting))
       (here : held' slot ≡ x) (there : (i : ℕ) → i < room → i ≢ slot → held' i ≡ held i) where
     abbrev more : Rows
     more = with_span r k (put_span r k)
@@ -133,7 +133,7 @@ module _ (r : Rows) (room : ℕ) (held : ℕ → Message) (ok : RowsLawful r roo
     pub put_model : (b : Backing) (state state' : List ℕ → b.State) → Puts b state state' slot x → rows_model b (with_span r k (put_span r k)) held' state' ≡ put_on b (rows_model b r held state) k x
     put_model b state state' puts =
         let same : firsts more ≡ firsts r = map-set_same (λ (y : Span). y.first) r.spans k _ no_span refl in
-        let after : slot ≡ slot_after (row_lanes r held) (firsts r) k =
+        let after : slot ≡ put_slot (row_lanes r held) (firsts r) k =
         next ∙ λ i. capacity_is i * k + (sym first_is i + waiting_is i) % capacity_is i in
         λ i. record { lanes = put_makes i; state = (ap state' same ∙ puts (firsts r) (row_lanes r held) k after) i }
 
@@ -160,6 +160,6 @@ module _ (r : Rows) (room : ℕ) (held : ℕ → Message) (ok : RowsLawful r roo
 
     pub take_model : (b : Backing) (state : List ℕ → b.State) → Takes b state → rows_model b (with_span r k (take_span r k)) held state ≡ take_on b (rows_model b r held state) k
     take_model b state takes =
-        let moved : firsts less ≡ set (firsts r) k ((get_or (firsts r) k 0 + 1) % capacity_of (row_lanes r held) k) =
+        let moved : firsts less ≡ take_first (row_lanes r held) (firsts r) k =
         map-set (λ (y : Span). y.first) r.spans k _ ∙ (λ i. set (firsts r) k ((sym first_is i + 1) % capacity_is i)) in
         λ i. record { lanes = take_makes i; state = (ap state moved ∙ takes (firsts r) (row_lanes r held) k) i }

@@ -31,10 +31,6 @@ take_span r k = record { first = ((span_of r k).first + 1) % r.capacity; waiting
 abbrev pub place : Rows → ℕ → ℕ → ℕ
 place r k m = r.capacity * k + m % r.capacity
 
--- the slot that the next message put on lane k goes to
-abbrev pub next_place : Rows → ℕ → ℕ
-next_place r k = place r k ((span_of r k).first + (span_of r k).waiting)
-
 -- rows just made: every lane begins at slot 0, and nothing waits
 abbrev pub new_rows : ℕ → ℕ → Rows
 new_rows n capacity = record { lanes = n; capacity = capacity; spans = replicate lane_limit no_span }

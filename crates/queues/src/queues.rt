@@ -2,7 +2,8 @@ ghost use Rattle.std.specs.Prelude.{◌≡◌, ◌<◌, ◌≤◌, true, length,
 ghost use Rattle.fabric.specs.declared.fault.FabricFault.TheVariants.{NoLane};
 ghost use Rattle.fabric.specs.Lanes.{capacity_of, messages_of, put_answer, take_answer};
 ghost use Rattle.fabric.specs.Backing.{put_on, take_on, after_put, after_take};
-ghost use Rattle.queues.specs.Rows.{span_of, place, row_lanes, rows_model, HasSpace, HasMessage};
+ghost use Rattle.queues.specs.Rows.{span_of, place, HasSpace, HasMessage};
+ghost use Rattle.queues.specs.Model.{slots_lanes, slots_model};
 
 use crate::rows::Span;
 use crate::slots::Slots;
@@ -11,8 +12,8 @@ use fabric::{FabricFault, Message};
 // Puts a message on a lane, as a fabric does.
 pub fn put<S: Slots>(slots: &mut S, lane: usize, msg: Message) -> Result<(), FabricFault>
     ensures lender { S.Slots.lender slots.new ≡ S.Slots.lender slots.old }
-    ensures answer { result ≡ put_answer (row_lanes (S.Slots.rows slots.old) (S.Slots.held slots.old)) lane }
-    ensures after { rows_model S.Slots.backing (S.Slots.rows slots.new) (S.Slots.held slots.new) (S.Slots.state slots.new) ≡ after_put S.Slots.backing result (rows_model S.Slots.backing (S.Slots.rows slots.old) (S.Slots.held slots.old) (S.Slots.state slots.old)) lane msg }
+    ensures answer { result ≡ put_answer (slots_lanes S.Slots slots.old) lane }
+    ensures after { slots_model S.Slots slots.new ≡ after_put S.Slots.backing result (slots_model S.Slots slots.old) lane msg }
 {
     check_put(slots, lane)?;
     append(slots, lane, msg);
@@ -22,8 +23,8 @@ pub fn put<S: Slots>(slots: &mut S, lane: usize, msg: Message) -> Result<(), Fab
 // Takes the first message of a lane, as a fabric does.
 pub fn take<S: Slots>(slots: &mut S, lane: usize) -> Result<Message, FabricFault>
     ensures lender { S.Slots.lender slots.new ≡ S.Slots.lender slots.old }
-    ensures answer { result ≡ take_answer (row_lanes (S.Slots.rows slots.old) (S.Slots.held slots.old)) lane }
-    ensures after { rows_model S.Slots.backing (S.Slots.rows slots.new) (S.Slots.held slots.new) (S.Slots.state slots.new) ≡ after_take S.Slots.backing result (rows_model S.Slots.backing (S.Slots.rows slots.old) (S.Slots.held slots.old) (S.Slots.state slots.old)) lane }
+    ensures answer { result ≡ take_answer (slots_lanes S.Slots slots.old) lane }
+    ensures after { slots_model S.Slots slots.new ≡ after_take S.Slots.backing result (slots_model S.Slots slots.old) lane }
 {
     let msg = look(slots, lane)?;
     advance(slots, lane);
@@ -32,7 +33,7 @@ pub fn take<S: Slots>(slots: &mut S, lane: usize) -> Result<Message, FabricFault
 
 // The first message of a lane; refuses as take does.
 pub fn look<S: Slots>(slots: &S, lane: usize) -> Result<Message, FabricFault>
-    ensures answer { result ≡ take_answer (row_lanes (S.Slots.rows slots.now) (S.Slots.held slots.now)) lane }
+    ensures answer { result ≡ take_answer (slots_lanes S.Slots slots.now) lane }
     ensures waits { is_ok result ≡ true → HasMessage (S.Slots.rows slots.now) lane }
 {
     let span = span(slots, lane)?;
@@ -45,21 +46,21 @@ pub fn look<S: Slots>(slots: &S, lane: usize) -> Result<Message, FabricFault>
 // How many lanes there are.
 #[tactic(auto, using(fabric::proofs::Queue::lanes_length))]
 pub fn lane_count<S: Slots>(slots: &S) -> usize
-    ensures { result ≡ length (row_lanes (S.Slots.rows slots.now) (S.Slots.held slots.now)) }
+    ensures { result ≡ length (slots_lanes S.Slots slots.now) }
 {
     slots.rows().lanes
 }
 
 // How many messages a lane can hold; 0 where there is no such lane.
 pub fn capacity<S: Slots>(slots: &S, lane: usize) -> usize
-    ensures { result ≡ capacity_of (row_lanes (S.Slots.rows slots.now) (S.Slots.held slots.now)) lane }
+    ensures { result ≡ capacity_of (slots_lanes S.Slots slots.now) lane }
 {
     span(slots, lane).map_or(0, |_| slots.lane_len())
 }
 
 // How many messages a lane holds; 0 where there is no such lane.
 pub fn waiting<S: Slots>(slots: &S, lane: usize) -> usize
-    ensures { result ≡ length (messages_of (row_lanes (S.Slots.rows slots.now) (S.Slots.held slots.now)) lane) }
+    ensures { result ≡ length (messages_of (slots_lanes S.Slots slots.now) lane) }
 {
     span(slots, lane).map_or(0, |span| span.waiting)
 }
@@ -88,7 +89,7 @@ fn place<S: Slots>(slots: &S, lane: usize, after: usize) -> usize
 
 // Refuses as put does.
 fn check_put<S: Slots>(slots: &S, lane: usize) -> Result<(), FabricFault>
-    ensures answer { result ≡ put_answer (row_lanes (S.Slots.rows slots.now) (S.Slots.held slots.now)) lane }
+    ensures answer { result ≡ put_answer (slots_lanes S.Slots slots.now) lane }
     ensures space { is_ok result ≡ true → HasSpace (S.Slots.rows slots.now) lane }
 {
     let span = span(slots, lane)?;
@@ -102,7 +103,7 @@ fn check_put<S: Slots>(slots: &S, lane: usize) -> Result<(), FabricFault>
 fn append<S: Slots>(slots: &mut S, lane: usize, msg: Message)
     requires { HasSpace (S.Slots.rows slots.old) lane }
     ensures lender { S.Slots.lender slots.new ≡ S.Slots.lender slots.old }
-    ensures after { rows_model S.Slots.backing (S.Slots.rows slots.new) (S.Slots.held slots.new) (S.Slots.state slots.new) ≡ put_on S.Slots.backing (rows_model S.Slots.backing (S.Slots.rows slots.old) (S.Slots.held slots.old) (S.Slots.state slots.old)) lane msg }
+    ensures after { slots_model S.Slots slots.new ≡ put_on S.Slots.backing (slots_model S.Slots slots.old) lane msg }
 {
     let span = slots.rows().spans[lane];
     slots.write(place(slots, lane, span.first + span.waiting), msg);
@@ -117,7 +118,7 @@ fn append<S: Slots>(slots: &mut S, lane: usize, msg: Message)
 fn advance<S: Slots>(slots: &mut S, lane: usize)
     requires { HasMessage (S.Slots.rows slots.old) lane }
     ensures lender { S.Slots.lender slots.new ≡ S.Slots.lender slots.old }
-    ensures after { rows_model S.Slots.backing (S.Slots.rows slots.new) (S.Slots.held slots.new) (S.Slots.state slots.new) ≡ take_on S.Slots.backing (rows_model S.Slots.backing (S.Slots.rows slots.old) (S.Slots.held slots.old) (S.Slots.state slots.old)) lane }
+    ensures after { slots_model S.Slots slots.new ≡ take_on S.Slots.backing (slots_model S.Slots slots.old) lane }
 {
     let span = slots.rows().spans[lane];
     let less = Span {

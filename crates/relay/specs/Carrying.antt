@@ -5,7 +5,7 @@ use Rattle.fabric.specs.declared.fault.FabricFault.{FabricFault}
 use Rattle.fabric.specs.Lanes.{Lane, put_answer, put_lanes, take_answer, take_lanes}
 use Rattle.fabric.specs.Backing.{Model, after_put}
 use Rattle.frames.specs.Frames.{buffer_backing, lanes_over, made_over}
-use Rattle.relay.specs.Moving.{and_then, move_answer, after_move}
+use Rattle.relay.specs.Moving.{followed_by, move_answer, after_move}
 
 -- the lanes once the message that look answered is moved
 abbrev pub moved_lanes : Result Message FabricFault → List Lane → ℕ → ℕ → List Lane
@@ -14,16 +14,16 @@ moved_lanes (Err e) lanes from to = lanes
 
 -- what moving and taking answer, once the message is put
 abbrev pub delivery : List Lane → ℕ → ℕ → Result Message FabricFault
-delivery lanes from to = and_then (move_answer lanes from to) (λ _. take_answer (moved_lanes (take_answer lanes from) lanes from to) to)
+delivery lanes from to = followed_by (move_answer lanes from to) (λ _. take_answer (moved_lanes (take_answer lanes from) lanes from to) to)
 
 -- what carrying answers in a buffer of `len` bytes; a stage keeps the lanes below
 abbrev pub carry_answer : ℕ → ℕ → ℕ → ℕ → Message → Result Message FabricFault
 carry_answer len shims from to x =
-    and_then (put_answer (lanes_over len shims) from) (λ _. delivery (put_lanes (lanes_over len shims) from x) from to)
+    followed_by (put_answer (lanes_over len shims) from) (λ _. delivery (put_lanes (lanes_over len shims) from x) from to)
 
 -- what putting and moving answer in a buffer of `len` bytes
 abbrev pub move_in_answer : ℕ → ℕ → ℕ → ℕ → Message → Result Unit FabricFault
-move_in_answer len shims from to x = and_then (put_answer (lanes_over len shims) from) (λ _. move_answer (put_lanes (lanes_over len shims) from x) from to)
+move_in_answer len shims from to x = followed_by (put_answer (lanes_over len shims) from) (λ _. move_answer (put_lanes (lanes_over len shims) from x) from to)
 
 -- a fabric in a buffer, once a message is put
 abbrev pub put_in : List ℕ → ℕ → ℕ → Message → Model buffer_backing

@@ -5,14 +5,14 @@ use Rattle.fabric.specs.declared.fault.FabricFault.{FabricFault}
 use Rattle.fabric.specs.Lanes.{Lane, put_answer, take_answer}
 use Rattle.fabric.specs.Backing.{Backing, Model, put_on, take_on}
 
--- the second answer, unless the first is a refusal
-abbrev pub and_then : {A B : Type 0} → Result A FabricFault → (A → Result B FabricFault) → Result B FabricFault
-and_then (Ok a) next = next a
-and_then (Err e) next = Err e
+-- one answer after another: a refusal is the last
+abbrev pub followed_by : {A B : Type 0} → Result A FabricFault → (A → Result B FabricFault) → Result B FabricFault
+followed_by (Ok a) next = next a
+followed_by (Err e) next = Err e
 
 -- what a move answers: the refusals of look, then those of put
 abbrev pub move_answer : List Lane → ℕ → ℕ → Result Unit FabricFault
-move_answer lanes from to = and_then (take_answer lanes from) (λ _. put_answer lanes to)
+move_answer lanes from to = followed_by (take_answer lanes from) (λ _. put_answer lanes to)
 
 -- the message that look answered is put on lane `to`, then taken from lane `from`
 abbrev pub moved : (b : Backing) → Result Message FabricFault → Model b → ℕ → ℕ → Model b

@@ -1,5 +1,5 @@
 -- What a call leaves, and the tests that it is refused by.
-use Rattle.std.specs.Prelude.{ℕ, ◌*◌, Bool, true, false, cond, not, ◌||◌, List, [], ◌∷◌, length, is_some, Err, Result, ◌==◌, nat_le}
+use Rattle.std.specs.Prelude.{ℕ, ◌*◌, Bool, not, ◌||◌, List, [], ◌∷◌, length, is_some, Err, Result, ◌==◌, nat_le, slice_index_or}
 use Rattle.fabric.specs.Backing.{Backing, Model}
 use Rattle.fabric.specs.Lanes.{Lane, is_full, messages_of}
 use Rattle.fabric.specs.declared.message.Message.{Message}
@@ -10,7 +10,7 @@ use Rattle.rules.specs.declared.refusal.Refusal.TheVariants.{WrongSize, NoShim, 
 use Rattle.rules.specs.declared.state.Size.{Size}
 use Rattle.rules.specs.declared.state.State.{State}
 use Rattle.rules.specs.declared.strength.Access.{Access}
-use Rattle.rules.specs.Refusals.{Check, refuse_if}
+use Rattle.rules.specs.Refusals.{Check, refuse_if, tested}
 use Rattle.rules.specs.State.{stamp_limit, wait_at, line_at, is_claimed, is_ready, is_held, is_unsettled, stamp_of}
 use Rattle.rules.specs.Strengths.{fitting}
 
@@ -25,8 +25,7 @@ after r b φ = record { outcome = r; state = b; fabric = φ }
 
 -- a call is refused by the first of the tests that it fails, and changes nothing then
 abbrev pub unless_refused : {ω : Backing} → State → Model ω → List Check → After ω → After ω
-unless_refused b φ [] accepted = accepted
-unless_refused b φ (c ∷ cs) accepted = cond c.fails (after (Err c.refusal) b φ) (unless_refused b φ cs accepted)
+unless_refused b φ cs accepted = tested (λ e. after (Err e) b φ) cs accepted
 
 -- 1: the fabric's lanes are not those of the board
 abbrev pub wrong_lanes : Size → List Lane → Check
@@ -65,20 +64,16 @@ abbrev pub lane_full : List Lane → ℕ → Check
 lane_full lanes k = refuse_if (is_full lanes k) (Fabric (Full k))
 
 -- 11: nothing waits on the lane
-abbrev pub is_empty : List Message → Bool
-is_empty [] = true
-is_empty (m ∷ ms) = false
-
 abbrev pub lane_empty : List Lane → ℕ → Check
-lane_empty lanes k = refuse_if (is_empty (messages_of lanes k)) (Fabric (Empty k))
+lane_empty lanes k = refuse_if (length (messages_of lanes k) == 0) (Fabric (Empty k))
 
--- the first message of a lane; the zero message where there is none
-abbrev pub first_message : List Message → Message
-first_message [] = record { kind = 0; line = 0; mark = 0; sender = 0; value = 0; stamp = 0 }
-first_message (m ∷ ms) = m
+-- what stands for a message where there is none
+abbrev pub no_message : Message
+no_message = record { kind = 0; line = 0; mark = 0; sender = 0; value = 0; stamp = 0 }
 
+-- the first message of lane k
 abbrev pub first_on : List Lane → ℕ → Message
-first_on lanes k = first_message (messages_of lanes k)
+first_on lanes k = slice_index_or (messages_of lanes k) 0 no_message
 
 -- 12: the first message of the lane is foreign
 abbrev pub foreign_on : ℕ → Bool → Check

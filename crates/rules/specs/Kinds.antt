@@ -1,5 +1,5 @@
 -- The number of each kind of message.
-use Rattle.std.specs.Prelude.{ℕ, ◌≡◌, cond, Some, None, Option, Result, MatchResult, ◌==◌}
+use Rattle.std.specs.Prelude.{ℕ, cond, Some, None, Option, Result, ok_or, ◌==◌}
 use Rattle.std.specs.Option.{unwrap_or}
 use Rattle.fabric.specs.declared.message.Message.{Message}
 use Rattle.rules.specs.declared.kind.Kind.{Kind}
@@ -26,9 +26,9 @@ kind_of k =
     (cond (k == kind_number WriteAck) (Some WriteAck)
     (cond (k == kind_number Drop) (Some Drop) None))))))
 
--- the kind of a number, or an error that carries the number where it is none of a kind
-abbrev pub DecodesKind : ℕ → Result Kind UnknownNumber → Type 0
-DecodesKind n r = MatchResult r (λ k. kind_of n ≡ Some k) (λ e. (kind_of n ≡ None) × (e.0 ≡ n))
+-- the kind of a number, or the number back where there is none
+abbrev pub kind_or_unknown : ℕ → Result Kind UnknownNumber
+kind_or_unknown n = ok_or (kind_of n) (record { 0 = n })
 
 -- the kind of a message; one that is none of the seven is foreign, whatever stands here for it
 abbrev pub kind_at : Message → Kind

@@ -35,7 +35,11 @@ pub record Check : Type 0 where
 abbrev pub refuse_if : Bool → Refusal → Check
 refuse_if fails refusal = record { fails = fails; refusal = refusal }
 
--- the value, unless a test is failed; then the refusal of the first such test
+-- what is accepted, unless a test is failed: then what is made of the refusal of the first such test
+abbrev pub tested : {A : Type 0} → (Refusal → A) → List Check → A → A
+tested refuse [] accepted = accepted
+tested refuse (c ∷ cs) accepted = cond c.fails (refuse c.refusal) (tested refuse cs accepted)
+
+-- a value, or that refusal
 abbrev pub passing : {A : Type 0} → List Check → A → Result A Refusal
-passing [] a = Ok a
-passing (c ∷ cs) a = cond c.fails (Err c.refusal) (passing cs a)
+passing cs a = tested Err cs (Ok a)

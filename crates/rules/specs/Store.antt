@@ -10,7 +10,7 @@ use Rattle.rules.specs.declared.state.Wait.TheVariants as wait
 use Rattle.rules.specs.declared.strength.Access.TheVariants as access
 use Rattle.rules.specs.Checks.{After, after, unless_refused, wrong_lanes, no_shim, no_line, wrong_strength, shim_waits, at_limit, lane_full}
 use Rattle.rules.specs.Refusals.{Check}
-use Rattle.rules.specs.Requests.{store_message_of_number}
+use Rattle.rules.specs.Requests.{store_message}
 use Rattle.rules.specs.State.{up_lane, line_at, is_held, held_at, unsettled_at, with_wait, with_line, with_store}
 use Rattle.rules.specs.Strengths.{is_sc}
 
@@ -30,7 +30,7 @@ stored b s x v = with_line (with_store b) s x (line_stored (line_at b s x) v)
 -- an accepted store
 abbrev pub store_accepted : (ω : Backing) → State → Model ω → ℕ → ℕ → ℕ → ℕ → After ω
 store_accepted ω b φ s x g v =
-    let φ' = put_on ω φ (up_lane s) (store_message_of_number s x g (is_held (line_at b s x)) v) in
+    let φ' = put_on ω φ (up_lane s) (store_message s x g (is_held (line_at b s x)) v) in
     cond (is_sc g) (after (Ok Waits) (with_wait (stored b s x v) s (Some (wait.Store x))) φ') (after (Ok Done) (stored b s x v) φ')
 
 -- a store by shim s of v to line x with strength g

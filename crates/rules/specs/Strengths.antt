@@ -1,5 +1,5 @@
 -- Strengths and marks: their numbers, and which strength fits which call.
-use Rattle.std.specs.Prelude.{ℕ, ◌≡◌, ◌+◌, ◌/◌, ◌%◌, Bool, true, false, cond, Some, None, Option, Result, MatchResult, ◌==◌}
+use Rattle.std.specs.Prelude.{ℕ, ◌+◌, ◌/◌, ◌%◌, Bool, true, false, cond, Some, None, Option, Result, ok_or, ◌==◌}
 use Rattle.rules.specs.declared.strength.Access.{Access}
 use Rattle.rules.specs.declared.strength.Access.TheVariants.{Load, Store, Fence}
 use Rattle.rules.specs.declared.strength.Strength.{Strength}
@@ -20,9 +20,9 @@ strength_of g =
     (cond (g == strength_number Release) (Some Release)
     (cond (g == strength_number SeqCst) (Some SeqCst) None)))
 
--- the strength of a number, or an error that carries the number where it is none of a strength
-abbrev pub DecodesStrength : ℕ → Result Strength UnknownNumber → Type 0
-DecodesStrength g r = MatchResult r (λ k. (strength_of g ≡ Some k) × (strength_number k ≡ g)) (λ e. (strength_of g ≡ None) × (e.0 ≡ g))
+-- the strength of a number, or the number back where there is none
+abbrev pub strength_or_unknown : ℕ → Result Strength UnknownNumber
+strength_or_unknown g = ok_or (strength_of g) (record { 0 = g })
 
 -- which strengths a load, a store and a fence take
 abbrev pub takes : Access → Strength → Bool
@@ -52,11 +52,8 @@ abbrev pub synchronise_mark : ℕ
 synchronise_mark = 16
 
 -- a mark is the number of a strength, plus 16 where a store asks to be synchronised
-abbrev pub mark_of_number : ℕ → Bool → ℕ
-mark_of_number g synchronise = g + cond synchronise synchronise_mark 0
-
-abbrev pub mark_of : Strength → Bool → ℕ
-mark_of s synchronise = mark_of_number (strength_number s) synchronise
+abbrev pub mark_of : ℕ → Bool → ℕ
+mark_of g synchronise = g + cond synchronise synchronise_mark 0
 
 -- of a mark that arrives, the four lowest bits are the strength, the next asks to be synchronised, the rest are ignored
 abbrev pub mark_strength : ℕ → ℕ

@@ -16,7 +16,17 @@ use Rattle.rules.specs.Checks.{After, after, unless_refused, message_checks, for
 use Rattle.rules.specs.Kinds.{kind_number, kind_of, kind_at}
 use Rattle.rules.specs.Refusals.{Check, refuse_if}
 use Rattle.rules.specs.State.{stamp_limit, up_lane, down_lane, hub_at, shares, with_hub}
-use Rattle.rules.specs.Strengths.{mark_of, mark_strength, is_sc, asks_sync}
+use Rattle.rules.specs.Strengths.{strength_number, mark_of, mark_strength, is_sc, asks_sync}
+
+-- WHAT THE HUB KEEPS
+
+-- the hub's line after a message of this kind; the last clause, here and below, is for the kinds that do not go up
+abbrev pub hub_by : HubLine → Message → Kind → HubLine
+hub_by h m Write = record { word = m.value; stamp = h.stamp + 1; sharers = cond (asks_sync m.mark) (slice_set h.sharers m.sender true) h.sharers }
+hub_by h m ReadRequest = record { word = h.word; stamp = h.stamp; sharers = slice_set h.sharers m.sender true }
+hub_by h m FenceRequest = h
+hub_by h m Drop = record { word = h.word; stamp = h.stamp; sharers = slice_set h.sharers m.sender false }
+hub_by h m k = h
 
 -- WHO IS SENT WHAT
 
@@ -35,14 +45,13 @@ abbrev pub read_message : HubLine → Message → Message
 read_message h m = record { kind = kind_number ReadResponse; line = m.line; mark = m.mark; sender = m.sender; value = h.word; stamp = h.stamp }
 
 abbrev pub fenced_message : Kind → Message → Message
-fenced_message k m = record { kind = kind_number k; line = 0; mark = mark_of SeqCst false; sender = m.sender; value = 0; stamp = 0 }
+fenced_message k m = record { kind = kind_number k; line = 0; mark = mark_of (strength_number SeqCst) false; sender = m.sender; value = 0; stamp = 0 }
 
 -- a message, or none
 abbrev pub sent_if : Bool → Message → Option Message
 sent_if t m = cond t (Some m) None
 
--- what shim j is sent when the hub, with h at the line of m, performs m, a message of this kind;
--- the last clause, here and below, is for the kinds that do not go up
+-- what shim j is sent when the hub, with h at the line of m, performs m, a message of this kind
 abbrev pub sent_by : HubLine → Message → ℕ → Kind → Option Message
 sent_by h m j Write = cond (m.sender == j) (sent_if (owes_ack m.mark) (ack_message h m)) (sent_if (shares h j) (update_message h m))
 sent_by h m j ReadRequest = sent_if (m.sender == j) (read_message h m)
@@ -62,17 +71,7 @@ abbrev pub send_all : (ω : Backing) → (ℕ → Option Message) → Model ω �
 send_all ω sent φ zero = φ
 send_all ω sent φ (suc j) = send_one ω (send_all ω sent φ j) j (sent j)
 
--- WHAT THE HUB KEEPS
-
--- the hub's line after a message of this kind
-abbrev pub hub_by : HubLine → Message → Kind → HubLine
-hub_by h m Write = record { word = m.value; stamp = h.stamp + 1; sharers = cond (asks_sync m.mark) (slice_set h.sharers m.sender true) h.sharers }
-hub_by h m ReadRequest = record { word = h.word; stamp = h.stamp; sharers = slice_set h.sharers m.sender true }
-hub_by h m FenceRequest = h
-hub_by h m Drop = record { word = h.word; stamp = h.stamp; sharers = slice_set h.sharers m.sender false }
-hub_by h m k = h
-
--- THE RULE
+-- WHAT IS FOREIGN
 
 -- the kinds that go up; a store is no more performed once the hub's stamp is at the limit
 abbrev pub goes_up : HubLine → Option Kind → Bool
@@ -85,6 +84,8 @@ goes_up h o = false
 -- is m, on the up lane of shim s, a message that the hub does not perform
 abbrev pub foreign_up : Size → State → ℕ → Message → Bool
 foreign_up z b s m = nat_le z.lines m.line || (not (m.sender == s) || not (goes_up (hub_at b m.line) (kind_of m.kind)))
+
+-- THE RULE
 
 -- 10, for each of the first n shims that is sent something: the lowest full lane comes first
 abbrev pub full_lanes : (ℕ → Option Message) → List Lane → ℕ → List Check

@@ -1,5 +1,5 @@
 -- The words of kinds, answers and refusals, byte by byte.
-use Rattle.std.specs.Prelude.{ℕ, List, [], ◌∷◌, ◌++◌, map, codes, decimal}
+use Rattle.std.specs.Prelude.{ℕ, List, ◌++◌, map, codes, decimal}
 use Rattle.std.specs.List.{join_with_byte}
 use Rattle.rules.specs.Refusals.{refusal_told}
 use Rattle.rules.specs.declared.answer.Answer.{Answer}
@@ -17,22 +17,17 @@ kind_word FenceResponse = codes "FRESP"
 kind_word WriteAck = codes "WRITE_ACK"
 kind_word Drop = codes "DROP"
 
--- numbers, with a space before each
-abbrev pub spaced : List ℕ → List ℕ
-spaced [] = []
-spaced (n ∷ ns) = codes " " ++ (decimal n ++ spaced ns)
+abbrev pub answer_word : Answer → List ℕ
+answer_word Done = codes "done"
+answer_word Waits = codes "waits"
+answer_word (Value w) = codes "value"
+answer_word Ended = codes "ended"
+answer_word (Handled k) = kind_word k
 
+-- what is told of each answer: its word, and then the word that a load gave
 abbrev pub answer_bytes : Answer → List ℕ
-answer_bytes Done = codes "done"
-answer_bytes Waits = codes "waits"
-answer_bytes (Value w) = codes "value " ++ decimal w
-answer_bytes Ended = codes "ended"
-answer_bytes (Handled k) = kind_word k
-
--- what stands behind the word of an answer: the word that a load gave, or nothing
-abbrev pub answer_carries : Answer → List ℕ
-answer_carries (Value w) = w ∷ []
-answer_carries a = []
+answer_bytes (Value w) = answer_word (Value w) ++ (codes " " ++ decimal w)
+answer_bytes a = answer_word a
 
 -- what is told of a refusal, numbers parted by a space (32)
 abbrev pub refusal_bytes : Refusal → List ℕ

@@ -1,5 +1,5 @@
-ghost use Rattle.std.specs.Prelude.{◌≡◌, ◌++◌};
-ghost use Rattle.rules.specs.Words.{answer_bytes, answer_carries, spaced};
+ghost use Rattle.std.specs.Prelude.{◌≡◌};
+ghost use Rattle.rules.specs.Words.{answer_word};
 
 use crate::kind::Kind;
 use crate::refusal::Refusal;
@@ -23,7 +23,7 @@ pub enum Answer {
 impl Answer {
     // The word of an answer. What the answer carries stands behind it.
     pub fn word(self) -> &'static [u8]
-        ensures { answer_bytes self ≡ result.now ++ spaced (answer_carries self) }
+        ensures { result.now ≡ answer_word self }
     {
         match self {
             Answer::Done => b"done",

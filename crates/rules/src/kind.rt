@@ -1,5 +1,5 @@
 ghost use Rattle.std.specs.Prelude.{◌≡◌};
-ghost use Rattle.rules.specs.Kinds.{kind_number, DecodesKind};
+ghost use Rattle.rules.specs.Kinds.{kind_number, kind_or_unknown};
 ghost use Rattle.rules.specs.Words.{kind_word};
 
 use crate::unknown::UnknownNumber;
@@ -27,7 +27,7 @@ impl From<Kind> for u8 {
 impl TryFrom<u8> for Kind {
     type Error = UnknownNumber;
 
-    ghost try_from_gives = { DecodesKind };
+    ghost try_from_gives = { λ n r. r ≡ kind_or_unknown n };
 
     fn try_from(number: u8) -> Result<Kind, UnknownNumber> {
         match number {

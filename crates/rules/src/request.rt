@@ -30,7 +30,7 @@ pub fn load_request(shim: u8, line: u8, strength: Strength) -> Message
 
 // What a store sends up. On a line that its shim does not hold it asks to be synchronised.
 pub fn store_request(shim: u8, line: u8, strength: Strength, held: bool, value: Word) -> Message
-    ensures { result ≡ store_message shim line strength held value }
+    ensures { result ≡ store_message shim line (strength_number strength) held value }
 {
     Message {
         value,

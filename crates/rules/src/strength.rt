@@ -1,5 +1,5 @@
 ghost use Rattle.std.specs.Prelude.{◌≡◌, MatchOption};
-ghost use Rattle.rules.specs.Strengths.{strength_number, DecodesStrength, takes, fitting, mark_of, mark_strength, is_sc, asks_sync};
+ghost use Rattle.rules.specs.Strengths.{strength_number, strength_or_unknown, takes, fitting, mark_of, mark_strength, is_sc, asks_sync};
 
 use crate::unknown::UnknownNumber;
 
@@ -31,7 +31,7 @@ impl From<Strength> for u8 {
 impl TryFrom<u8> for Strength {
     type Error = UnknownNumber;
 
-    ghost try_from_gives = { DecodesStrength };
+    ghost try_from_gives = { λ g r. r ≡ strength_or_unknown g };
 
     fn try_from(number: u8) -> Result<Strength, UnknownNumber> {
         match number {
@@ -69,7 +69,7 @@ impl Strength {
 
     // The mark of a message of this strength.
     pub fn mark(self, synchronise: bool) -> u8
-        ensures { result ≡ mark_of self synchronise }
+        ensures { result ≡ mark_of (strength_number self) synchronise }
     {
         let asked = if synchronise { SYNCHRONISE } else { 0 };
         u8::from(self) + asked

@@ -131,5 +131,5 @@ down_follows {ω} z b φ s fits = unless z b φ (Down s) fits (down_checks z b �
         let to = (or_parts (leb z.shims m.sender) (foreign_to (wait_at b s) (line_at b s m.line) m) on_line.1).1 in
         let kinds = (or_parts (not (is_some (kind_of m.kind))) _ to).1 in
         let fine = (or_parts (over_limit m.stamp) (foreign_kind (wait_at b s) (line_at b s m.line) m (kind_at m)) kinds).1 in
-        handed_follows z b φ s fits m (leb-false z.shims s shim) (lanes_fit z φ.lanes lanes) (first_held (messages_of φ.lanes (down_lane s)) waits) (leb-false z.lines m.line on_line.0)
+        handed_follows z b φ s fits m (leb-false z.shims s shim) (lanes_fit z φ.lanes lanes) (first_held φ.lanes (down_lane s) waits) (leb-false z.lines m.line on_line.0)
         (heard (wait_at b s) (line_at b s m.line) m (kind_at m) fine)

@@ -25,7 +25,8 @@ use Rattle.run.proofs.Meaning.{request_by, request_of, notice_of, meaning}
 use Rattle.run.proofs.Tables.{Fits, set_each, fits_hub}
 use Rattle.rules.proofs.Passed.{Passed}
 use Rattle.run.proofs.Steps.{Follows, unless, lanes_fit}
-use Rattle.run.proofs.Notices.{sent_all, agrees}
+use Rattle.board.proofs.Sends.{sent_all}
+use Rattle.run.proofs.Notices.{agrees}
 
 -- what a message is to its own line
 abbrev own_act : Message → Kind → Act
@@ -146,6 +147,6 @@ up_follows {ω} z b φ s fits = unless z b φ (Up s) fits (up_checks z b φ.lane
     accepted (lanes, (shim, (waits, (known, room)))) =
         let on_line = or_parts (leb z.lines m.line) _ known in
         let own = or_parts (not (eqb m.sender s)) (not (goes_up (hub_at b m.line) (kind_of m.kind))) on_line.1 in
-        performed_follows z b φ s fits m (leb-false z.shims s shim) (lanes_fit z φ.lanes lanes) (first_held (messages_of φ.lanes (up_lane s)) waits) (leb-false z.lines m.line on_line.0)
+        performed_follows z b φ s fits m (leb-false z.shims s shim) (lanes_fit z φ.lanes lanes) (first_held φ.lanes (up_lane s) waits) (leb-false z.lines m.line on_line.0)
         (eqb-true m.sender s (not-false (eqb m.sender s) own.0))
         (goes_some (hub_at b m.line) (kind_of m.kind) (not-false (goes_up (hub_at b m.line) (kind_of m.kind)) own.1))

@@ -13,7 +13,7 @@ use Rattle.rules.specs.Fence.{fence_checks, fence_rule}
 use Rattle.rules.specs.Load.{load_checks, load_miss, load_rule}
 use Rattle.rules.specs.Requests.{load_message, fence_message, drop_message}
 use Rattle.rules.specs.State.{up_lane, down_lane, is_ready, is_held, is_unsettled, copy_of, stamp_of, shim_at, wait_at, line_at, with_shim, with_wait, with_line}
-use Rattle.rules.specs.Strengths.{mark_of_number}
+use Rattle.rules.specs.Strengths.{mark_of}
 use Rattle.rules.specs.declared.state.Held.{Held}
 use Rattle.rules.specs.declared.state.Shim.{Shim}
 use Rattle.rules.specs.declared.state.Size.{Size}
@@ -87,7 +87,7 @@ module _ {ω : Backing} (z : Size) (b : State) (φ : Model ω) (s : ℕ) (fits :
 
       split : Sender z b φ.lanes s → (l : Option Held) → line_at b s x ≡ l → Follows z b φ (Load s x g) (cond (is_held l) (after (Ok (Value (copy_of (line_at b s x)))) b φ) (load_miss ω b φ s x g))
       split by None q =
-          let plain : mark_of_number g false ≡ g = omega arith in
+          let plain : mark_of g false ≡ g = omega arith in
           unless z b φ (Load s x g) fits (lane_full φ.lanes (up_lane s) ∷ []) _
           (λ k. record { fits = fits_shim z b fits s by.low new refl; step = miss s x g by.low (rw q) (sends z b φ.lanes s fits by (load_message s x g) (Read x g) (ap (Read x) plain) new change) })
       split by (Some h) q = record { fits = fits; step = hit s x g (copy_of (line_at b s x)) by.low by.ready (copy_is (line_at b s x) (rw q)) (same (meaning b φ.lanes)) }

@@ -5,10 +5,10 @@ use Rattle.std.proofs.lemmas.Bool.{eq-eqb, ne_eqb, leb-false, cases_lt}
 use Rattle.fabric.specs.Backing.{Backing, Model, put_on}
 use Rattle.fabric.specs.declared.message.Message.{Message}
 use Rattle.rules.specs.Checks.{after}
-use Rattle.rules.specs.Requests.{store_message_of_number}
+use Rattle.rules.specs.Requests.{store_message}
 use Rattle.rules.specs.State.{up_lane, is_held, shim_at, wait_at, line_at, with_shim, with_wait, with_store}
 use Rattle.rules.specs.Store.{store_checks, line_stored, stored, store_accepted, store_rule}
-use Rattle.rules.specs.Strengths.{fitting, mark_of_number, mark_strength, asks_sync}
+use Rattle.rules.specs.Strengths.{fitting, mark_of, mark_strength, asks_sync}
 use Rattle.rules.specs.declared.state.Held.{Held}
 use Rattle.rules.specs.declared.state.Shim.{Shim}
 use Rattle.rules.specs.declared.state.Size.{Size}
@@ -32,7 +32,7 @@ small_strength g h =
     (λ (l : g ≤ 3). l) (cases_lt 3 g)
 
 -- a mark is read as it was made
-mark_reads : (g : ℕ) (k : Bool) → g ≤ 3 → (mark_strength (mark_of_number g k) ≡ g) × (asks_sync (mark_of_number g k) ≡ k)
+mark_reads : (g : ℕ) (k : Bool) → g ≤ 3 → (mark_strength (mark_of g k) ≡ g) × (asks_sync (mark_of g k) ≡ k)
 mark_reads g true h = (omega arith, eq-eqb ((g + 16) / 16 % 2) 1 (omega arith))
 mark_reads g false h = (omega arith, ne_eqb ((g + 0) / 16 % 2) 1 (λ e. omega arith))
 
@@ -63,7 +63,7 @@ module _ {ω : Backing} (z : Size) (b : State) (φ : Model ω) (s : ℕ) (fits :
   new w = record (shim_at b s) { wait = w; lines = set (shim_at b s).lines x (line_stored l₀ v) }
 
   abbrev message : Message
-  message = store_message_of_number s x g (is_held l₀) v
+  message = store_message s x g (is_held l₀) v
 
   abbrev request : Request
   request = Write x g (unheld (line_of l₀)) v

@@ -26,4 +26,4 @@ made_over_empty n m capacity e h q =
     let quiet = none_waits (2 * n) capacity (2 * n) (omega arith) in
     let made : make_rule (empty_lanes (2 * n) capacity) n m ≡ Ok (record { shims = n; lines = m }, fresh_state) = rw (h, lanes, quiet) in
     let both = q ∙ made in
-    let z : ◌≡◌ {A = ℕ} 0 1 = cc in omega arith
+    cc

@@ -23,15 +23,15 @@ left_of s over = 0
 pub falls : (s : List ℕ) (p : Play) (i : Item) → (next_item s p).0 ≡ Some i → left_of s (next_item s p).1 < left_of s p
 falls s (running p) i e = ⊎_elim
     (λ h. go h (next_at s p.place) e)
-    (λ h. let none : ◌≡◌ {A = Option Item} None (Some i) = sym (ap (λ r. (line_told s p r).0) (at_end s p.place h)) ∙ e in absurd (cc))
+    (λ h. let none : ◌≡◌ {A = Option Item} None (Some i) = sym (ap (λ r. (line_told s p r).0) (at_end s p.place h)) ∙ e in absurd cc)
     (cases_lt p.place (length s))
   where
     go : p.place < length s → (r : Result (Option Entry) Fault) → (line_told s p r).0 ≡ Some i → left_of s (line_told s p r).1 < left_of s (running p)
-    go h (Ok None) e = absurd (cc)
+    go h (Ok None) e = absurd cc
     go h (Ok (Some (a_call c))) e = omega arith
     go h r e = omega arith
 falls s (flawed f) i e = omega arith
-falls s over i e = absurd (cc)
+falls s over i e = absurd cc
 
 -- once a sheet is over, nothing comes
 pub over_quiet : (s : List ℕ) (k : ℕ) → items_from k s over ≡ []
@@ -42,10 +42,10 @@ none_over : (s : List ℕ) (p : Play) → (next_item s p).0 ≡ None → (next_i
 none_over s (running p) e = go (next_at s p.place) e
   where
     go : (r : Result (Option Entry) Fault) → (line_told s p r).0 ≡ None → (line_told s p r).1 ≡ over
-    go (Ok (Some (a_call c))) e = absurd (cc)
-    go (Ok (Some (format.a_note text))) e = absurd (cc)
+    go (Ok (Some (a_call c))) e = absurd cc
+    go (Ok (Some (format.a_note text))) e = absurd cc
     go r e = refl
-none_over s (flawed f) e = absurd (cc)
+none_over s (flawed f) e = absurd cc
 none_over s over e = refl
 
 -- the bytes so far and those of what is to come, at most n items, are the whole

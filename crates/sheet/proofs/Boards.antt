@@ -1,5 +1,5 @@
 -- The operands of the board line, one after the other.
-use Rattle.std.proofs.Common.{◌≡◌, ℕ, ◌+◌, Bool, true, false, cond, leb, nat_eq, List, length, take, Ok, Err, sym, ap, ◌∙◌, arith}
+use Rattle.std.proofs.Common.{◌≡◌, ℕ, ◌+◌, Bool, true, false, cond, leb, nat_eq, List, length, take, Ok, Err, sym, ap, ◌∙◌}
 use Rattle.std.specs.List.{starts_with}
 use Rattle.std.specs.Str.{bytes_eq}
 use Rattle.std.proofs.lemmas.Bool.Decides.{same_from_decides}
@@ -13,7 +13,7 @@ use Rattle.sheet.proofs.Ends.{followed_by_ok, operands_line, line_end_of_word}
 
 -- a board line that was read ends at its line feed
 by_length : (s : List ℕ) (a : ℕ) (b : Board) (t : Bool) → cond t (Err (fault WordCount (length s))) (board_line_at s a) ≡ Ok b → operands_end board_operands s (word_end s a) ≡ line_end s a + 1
-by_length s a b true e = let z : ◌≡◌ {A = ℕ} 0 1 = cc in absurd (omega arith)
+by_length s a b true e = absurd cc
 by_length s a b false e =
     let one = followed_by_ok (keyword_at board_word s a) _ b e in
     let two = followed_by_ok (operands_at board_operands s (word_end s a)) _ b one.2 in

@@ -1,5 +1,5 @@
 -- The line of a call: its first byte tells which it can be.
-use Rattle.std.proofs.Common.{◌≡◌, ℕ, ◌+◌, Bool, true, false, cond, eqb, ◌⊎◌, List, [], ◌∷◌, get_or, IfOk, OnOk, Some, None, Ok, Err, Option, Result, sym, refl, ap, ◌∙◌, subst, inl, inr, ⊎_elim, arith, Bor}
+use Rattle.std.proofs.Common.{◌≡◌, ℕ, ◌+◌, Bool, true, false, cond, eqb, ◌⊎◌, List, [], ◌∷◌, get_or, IfOk, OnOk, Some, None, Ok, Err, Option, Result, sym, refl, ap, ◌∙◌, subst, inl, inr, ⊎_elim, Bor}
 use Rattle.std.specs.Str.{bytes_eq}
 use Rattle.words.specs.declared.fault.Fault.{Fault}
 use Rattle.words.specs.declared.fault.FaultKind.TheVariants.{UnknownWord}
@@ -35,7 +35,7 @@ op_of_empty op = refl
 
 op_by_first : (w : List ℕ) (op : Op) → (w ≡ []) ⊎ (get_or w 0 0 ≡ initial op) → op_of w ≡ confirmed op w
 op_by_first [] op h = op_of_empty op
-op_by_first (b ∷ bs) op (inl e) = let z : ◌≡◌ {A = ℕ} 0 1 = cc in absurd (omega arith)
+op_by_first (b ∷ bs) op (inl e) = absurd cc
 op_by_first (b ∷ bs) op (inr e) = let P : ℕ → Type 0 = λ x. op_of (x ∷ bs) ≡ confirmed op (x ∷ bs) in subst P (sym e) (op_of_initial op bs)
 
 initial_is_no_note : (op : Op) → eqb (initial op) hash ≡ false
@@ -46,7 +46,7 @@ told_call : (op : Op) (r : Result (List ℕ) Fault) → told (followed_by r (λ 
 told_call op (Ok vs) = refl
 told_call op (Err f) = refl
 
-call_in_place : (s : Bor (List ℕ)) (a : ℕ) (op : Op) (q : Result Unit Fault) (r : Result (List ℕ) Fault) → InPlace s a (followed_by q (λ _. followed_by r (λ vs. Ok (line.Call (call_of op vs)))))
+call_in_place : (s : Bor (List ℕ)) (a : ℕ) (op : Op) (q : Result Unit Fault) (r : Result (List ℕ) Fault) → IfOk (followed_by q (λ _. followed_by r (λ vs. Ok (line.Call (call_of op vs))))) (InPlace s a)
 call_in_place s a op (Ok _) (Ok vs) = tt
 call_in_place s a op q r = tt
 
@@ -84,6 +84,6 @@ call_line before here op r wants first read moved =
     let a = before.at in
     record {
       value = ap told read ∙ call_entry s.now a op wants first;
-      place = subst (InPlace s a) (sym read) (call_in_place s a op (keyword_at (op_word op) s.now a) (operands_at (op_operands op) s.now (word_end s.now a)));
+      place = subst (λ r. IfOk r (InPlace s a)) (sym read) (call_in_place s a op (keyword_at (op_word op) s.now a) (operands_at (op_operands op) s.now (word_end s.now a)));
       after = call_after s.now a op before here r read moved;
     }

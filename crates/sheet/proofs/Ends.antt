@@ -10,7 +10,7 @@ use Rattle.words.specs.Lengths.{line_feed, space, ends_word, word_length, line_l
 -- what went well went well step by step
 pub followed_by_ok : {X Y : Type 0} (r : Result X Fault) (next : X → Result Y Fault) (y : Y) → followed_by r next ≡ Ok y → (x : X) × (r ≡ Ok x) × (next x ≡ Ok y)
 followed_by_ok (Ok x) next y e = (x, refl, e)
-followed_by_ok (Err f) next y e = let z : ◌≡◌ {A = ℕ} 0 1 = cc in absurd (omega arith)
+followed_by_ok (Err f) next y e = absurd cc
 
 -- a word has no line feed
 line_of_word : (d : List ℕ) → line_length d ≡ word_length d + line_length (drop (word_length d) d)

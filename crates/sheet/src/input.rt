@@ -22,6 +22,7 @@ pub fn read_sheet<R: Read + Drop>(heap: Global, input: R) -> io::Result<Vec<u8>>
 #[cfg(test)]
 mod tests {
     use super::*;
+    use std::fs::File;
     use std::test::Fail;
 
     #[test]
@@ -30,6 +31,14 @@ mod tests {
         assert_eq!(rt; text.as_slice(), &b"MGL 1\n"[..]);
         let text = read_sheet(rt.alloc(), io::repeat(b'.'))?;
         assert_eq!(rt; text.len(), 65537);
+        Ok(())
+    }
+
+    // A folder can be opened and not read.
+    #[test]
+    fn tells_a_read_that_fails(rt: HostRuntime) -> Result<(), Fail> {
+        let folder = File::open(&rt, "/")?;
+        assert!(rt; read_sheet(rt.alloc(), folder).is_err());
         Ok(())
     }
 }

@@ -1,13 +1,12 @@
 -- Making a stage: the registers are filled lane by lane.
-use Rattle.std.proofs.Common.{◌≡◌, ℕ, suc, min, ◌+◌, ◌<◌, ◌≤◌, ◌≢◌, List, [], ◌++◌, length, set, None, Option, Result, sym, ap, ◌∙◌, subst, ⊎_elim, arith, length-set, get_or-set_other, get_or-set_same}
-use Rattle.std.proofs.lemmas.Bool.{cases_eq, cases_lt}
+use Rattle.std.proofs.Common.{◌≡◌, ℕ, ◌+◌, ◌<◌, ◌≤◌, ◌≢◌, List, [], ◌++◌, length, set, None, Option, Result, sym, ap, ◌∙◌, subst, ⊎_elim, add-one, arith, length-set, get_or-set_other, get_or-set_same}
+use Rattle.std.proofs.lemmas.Bool.{cases_eq}
 use Rattle.std.specs.Option.{option_to_list}
 use Rattle.std.specs.Result.{result_ok}
 use Rattle.fabric.specs.declared.message.Message.{Message}
 use Rattle.fabric.specs.declared.fault.FabricFault.{FabricFault}
 use Rattle.fabric.specs.Lanes.{Lane, Sound, lane_limit, lane_of, take_answer, lanes_after_take, messages_of}
 use Rattle.fabric.specs.Backing.{Backing, Model, after_take}
-use Rattle.fabric.proofs.Answered as answered
 use Rattle.fabric.proofs.Queue.{lanes_are}
 use Rattle.stage.proofs.Fetches.{Next, fetched}
 use Rattle.stage.specs.Stage.{register, stage_lane, stage_lanes, firsts_taken, StageLawful}
@@ -51,23 +50,8 @@ module _ (rs : List (Option Message)) (m₀ m : List Lane) (i : ℕ) (f : Filled
         fits = λ k h. let q = f.done k (omega (arith, f.count)) in omega (arith, ap (λ l. length l.messages) q, ap (λ l. l.capacity) q, s.fits k);
       }
 
--- the first messages of the lanes below k are taken; past the last lane there is none
-module _ (b : Backing) (m₀ m m' : Model b) (k : ℕ) (r : Result Message FabricFault) (count : length m.lanes ≡ length m₀.lanes) (before : m ≡ firsts_taken b m₀ (min k (length m₀.lanes)))
-    (answer : r ≡ take_answer m.lanes k) (after : m' ≡ after_take b r m k) where
-  abbrev n : ℕ
-  n = length m₀.lanes
-
-  within : k < n → m' ≡ firsts_taken b m₀ (min (k + 1) n)
-  within h =
-      let low : min k n ≡ k = omega arith in
-      let d : m ≡ firsts_taken b m₀ k = before ∙ ap (firsts_taken b m₀) low in
-      let e : suc k ≡ min (k + 1) n = omega arith in
-      after ∙ ap (λ q. after_take b q m k) answer ∙ ap (λ (q : Model b). after_take b (take_answer q.lanes k) q k) d ∙ ap (firsts_taken b m₀) e
-
-  past : n ≤ k → m' ≡ firsts_taken b m₀ (min (k + 1) n)
-  past h =
-      let e : min k n ≡ min (k + 1) n = omega arith in
-      after ∙ ap (λ q. after_take b q m k) (answer ∙ answered.take_no_lane m.lanes k (omega (arith, count))) ∙ before ∙ ap (firsts_taken b m₀) e
-
-  pub firsts_more : m' ≡ firsts_taken b m₀ (min (k + 1) n)
-  firsts_more = ⊎_elim within past (cases_lt k n)
+-- one more of the first messages is taken
+pub firsts_more : (b : Backing) (m₀ m m' : Model b) (k : ℕ) (r : Result Message FabricFault) → m ≡ firsts_taken b m₀ k → r ≡ take_answer m.lanes k → m' ≡ after_take b r m k → m' ≡ firsts_taken b m₀ (k + 1)
+unfolding firsts_taken
+firsts_more b m₀ m m' k r before answer after =
+    after ∙ ap (λ q. after_take b q m k) answer ∙ ap (λ (q : Model b). after_take b (take_answer q.lanes k) q k) before ∙ ap (firsts_taken b m₀) (sym (add-one k))

@@ -1,4 +1,3 @@
-pub mod Accepted
 pub mod Behind
 pub mod Calls
 pub mod Fetches

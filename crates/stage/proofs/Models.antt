@@ -1,13 +1,12 @@
 -- What each call makes of the meaning of a stage.
-use Rattle.std.proofs.Common.{◌≡◌, ℕ, ◌+◌, ◌<◌, cond, List, length, set, is_ok, Some, None, Ok, Option, Result, sym, ap, ◌∙◌}
+use Rattle.std.proofs.Common.{◌≡◌, ℕ, ◌+◌, ◌<◌, cond, List, length, set, is_ok, Some, None, Option, Result, ap, ◌∙◌}
 use Rattle.std.specs.Result.{result_ok}
 use Rattle.fabric.specs.declared.message.Message.{Message}
 use Rattle.fabric.specs.declared.fault.FabricFault.{FabricFault}
 use Rattle.fabric.specs.Lanes.{Sound, put_answer, take_answer, messages_of, capacity_of}
 use Rattle.fabric.specs.Backing.{Backing, Model, put_on, take_on, after_put, after_take}
 use Rattle.fabric.proofs.Backing.{put_lanes_are, put_state_is, put_both, take_lanes_are, take_state_is}
-use Rattle.stage.specs.Stage.{register, stage_backing, stage_lanes, stage_model, StageLawful}
-use Rattle.stage.proofs.Accepted.{in_range, in_register}
+use Rattle.stage.specs.Stage.{register, stage_backing, stage_model, StageLawful}
 use Rattle.stage.proofs.Behind.{put_none_state, put_some_state, take_some_state}
 use Rattle.stage.proofs.Calls.{stage_answers, put_none_lanes, put_some_lanes, take_some_lanes}
 
@@ -36,14 +35,5 @@ module _ (b : Backing) (rs : List (Option Message)) (m : Model b) (k : ℕ) (in_
         let state = take_some_state rs m.lanes ok b m.state k in_range sound y some m'.state r answer (take_state_is b r m m' k after) in
         λ i. record { lanes = lanes i; state = state i }
 
--- a look at the stage m₀ gave x, and then the message in the register went
-module _ (b : Backing) (rs : List (Option Message)) (m m' : Model b) (k : ℕ) (o : Option Message) (m₀ : Model (stage_backing b)) where
-  pub looked_and_taken : (r₀ r : Result Message FabricFault) (x : Message) → stage_model b rs m ≡ m₀ → StageLawful rs m.lanes → Sound m.lanes → r₀ ≡ take_answer m₀.lanes k → r₀ ≡ Ok x
-      → r ≡ take_answer m.lanes k → m' ≡ after_take b r m k → o ≡ result_ok r → stage_model b (set rs k o) m' ≡ take_on (stage_backing b) m₀ k
-  looked_and_taken r₀ r x same ok sound looked was answer after next =
-      let accepted : take_answer (stage_lanes rs m.lanes) k ≡ Ok x = ap (λ q. take_answer q.lanes k) same ∙ sym looked ∙ was in
-      next_comes_up b rs m k (in_range rs m.lanes k x accepted) ok sound x (in_register rs m.lanes k x accepted ok sound) m' r o answer after next
-      ∙ ap (λ q. take_on (stage_backing b) q k) same
-
--- what a stage answers, and what a put leaves
-pub ruleset stage_calls = (stage_answers, put_in_register, put_below)
+-- what a stage answers, and what a put and a take leave
+pub ruleset stage_calls = (stage_answers, put_in_register, put_below, next_comes_up)

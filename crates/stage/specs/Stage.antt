@@ -47,14 +47,14 @@ stage_backing b =
 abbrev pub stage_model : (b : Backing) → List (Option Message) → Model b → Model (stage_backing b)
 stage_model b rs m = record { lanes = stage_lanes rs m.lanes; state = m.state }
 
--- the first message of each of the first n lanes is taken
-abbrev pub firsts_taken : (b : Backing) → Model b → ℕ → Model b
+-- the first message of each of the first n lanes is taken; a lane that does not exist has none
+unfoldable pub firsts_taken : (b : Backing) → Model b → ℕ → Model b
 firsts_taken b m zero = m
 firsts_taken b m (suc k) = after_take b (take_answer (firsts_taken b m k).lanes k) (firsts_taken b m k) k
 
 -- a stage just made over a fabric: the same lanes, each first message now in its register
 abbrev pub made_stage : (b : Backing) → Model b → Model (stage_backing b)
-made_stage b m = record { lanes = m.lanes; state = (firsts_taken b m (length m.lanes)).state }
+made_stage b m = record { lanes = m.lanes; state = (firsts_taken b m lane_limit).state }
 
 -- a register is empty only when its lane is, and counts against the capacity
 pub record StageLawful (rs : List (Option Message)) (m : List Lane) : Type 0 where

@@ -1,5 +1,6 @@
-ghost use Rattle.std.specs.Prelude.{◌≡◌};
-ghost use Rattle.stage.specs.Stage.{stage_backing, stage_model, made_stage, StageLawful};
+ghost use Rattle.std.specs.Prelude.{◌≡◌, ◌<◌, Some, length, IfOk};
+ghost use Rattle.fabric.specs.Lanes.{take_answer};
+ghost use Rattle.stage.specs.Stage.{register, stage_backing, stage_model, made_stage, StageLawful};
 ghost use Rattle.stage.specs.Sound.{stage_sound, stage_level};
 
 use fabric::{Fabric, FabricFault, MAX_LANES, Message};
@@ -12,8 +13,10 @@ pub struct Stage<F: Fabric> {
     ghost lawful: { StageLawful registers (F.Fabric.model below).lanes },
 }
 
+#[tactic(auto, using(crate::proofs::Models::stage_calls))]
 impl<F: Fabric> Stage<F> {
     // A stage over `below`: every lane's list is as it was, and its first message stands in the register.
+    #[tactic(auto, unfolding(crate::specs::Stage::firsts_taken))]
     pub fn new(mut below: F) -> Stage<F>
         ensures lender { ⟦<Stage<F> as Fabric>⟧.lender result ≡ F.Fabric.lender below }
         ensures model { ⟦<Stage<F> as Fabric>⟧.model result ≡ made_stage F.Fabric.backing (F.Fabric.model below) }
@@ -26,6 +29,17 @@ impl<F: Fabric> Stage<F> {
             *register = below.take(lane).ok();
         }
         Stage { registers, below }
+    }
+
+    // The message in the register of a lane; refuses as look does.
+    fn first(&self, lane: usize) -> Result<Message, FabricFault>
+        ensures answer { result ≡ take_answer (⟦<Stage<F> as Fabric>⟧.model self.now).lanes lane }
+        ensures there { IfOk result (λ msg. (lane < length (F.Fabric.model self.now.below).lanes) × (register self.now.registers lane ≡ Some msg)) }
+    {
+        if lane >= self.below.lane_count() {
+            return Err(FabricFault::NoLane(lane));
+        }
+        self.registers[lane].ok_or(FabricFault::Empty(lane))
     }
 }
 
@@ -59,16 +73,13 @@ impl<F: Fabric> Fabric for Stage<F> {
     }
 
     fn take(&mut self, lane: usize) -> Result<Message, FabricFault> {
-        let msg = self.look(lane)?;
+        let msg = self.first(lane)?;
         self.registers[lane] = self.below.take(lane).ok();
         Ok(msg)
     }
 
     fn look(&mut self, lane: usize) -> Result<Message, FabricFault> {
-        if lane >= self.below.lane_count() {
-            return Err(FabricFault::NoLane(lane));
-        }
-        self.registers[lane].ok_or(FabricFault::Empty(lane))
+        self.first(lane)
     }
 
     fn lane_count(&self) -> usize {

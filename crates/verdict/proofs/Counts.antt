@@ -1,5 +1,5 @@
 -- Counting the calls of a sheet, line by line.
-use Rattle.std.proofs.Common.{◌≡◌, ℕ, zero, suc, ◌+◌, ◌<◌, ◌≤◌, cond, List, ◌∷◌, length, Some, None, Ok, Err, Option, Result, sym, refl, ap, ◌∙◌, subst, add-zero, arith, Bor}
+use Rattle.std.proofs.Common.{◌≡◌, ℕ, zero, suc, ◌+◌, ◌<◌, ◌≤◌, cond, List, ◌∷◌, length, Some, None, Ok, Err, Option, Result, sym, refl, ap, ◌∙◌, add-zero, arith, Bor}
 use Rattle.std.proofs.lemmas.Bool.{le-leb}
 use Rattle.rules.specs.declared.call.Call.{Call}
 use Rattle.words.specs.declared.fault.Fault.{Fault}
@@ -10,86 +10,59 @@ use Rattle.sheet.specs.Lines.{NextLine, entry_of, next_told, next_place}
 use Rattle.sheet.specs.Reading.{followed_by, next_at, entry_at, and_then, entries_from, line_end}
 use Rattle.verdict.specs.Verdicts.{calls_in}
 
--- the calls from place a on, of at most k lines, after those that are counted
-abbrev pub calls_from : ℕ → List ℕ → ℕ → ℕ → Result ℕ Fault
-calls_from k s a calls = followed_by (entries_from k s a) (λ es. Ok (calls + calls_in es))
-
--- what is left to count at place a gives what was to be counted
-pub record Counting (s : List ℕ) (whole : Result ℕ Fault) (a calls : ℕ) : Type 0 where
-  pub lines : ℕ
-  pub enough : length s ≤ lines + a
-  pub same : whole ≡ calls_from lines s a calls
-
-pub counting_starts : (s : List ℕ) (a : ℕ) → Counting s (followed_by (entries_from (length s) s a) (λ es. Ok (calls_in es))) a 0
-counting_starts s a = record { lines = length s; enough = omega arith; same = by_entries (entries_from (length s) s a) }
-  where
-    by_entries : (r : Result (List Entry) Fault) → followed_by r (λ es. Ok (calls_in es)) ≡ followed_by r (λ es. Ok (0 + calls_in es))
-    by_entries (Ok es) = ap (λ n. Ok n) (omega arith)
-    by_entries (Err f) = refl
-
 -- beyond the end there is no line
 pub at_end : (s : List ℕ) (a : ℕ) → length s ≤ a → next_at s a ≡ Ok None
 at_end s a h = ap (λ t. cond t (Ok None) (followed_by (entry_at s a) (λ e. Ok (Some e)))) (le-leb (length s) a h)
 
--- one step, where the lines do not run out
-module _ (s : List ℕ) (a calls : ℕ) (r : Result (Option Entry) Fault) (read : r ≡ next_at s a) where
-  step : (k : ℕ) → calls_from (suc k) s a calls ≡ followed_by (followed_by r (λ next. and_then next (entries_from k s (line_end s a + 1)))) (λ es. Ok (calls + calls_in es))
-  step k = ap (λ q. followed_by (followed_by q (λ next. and_then next (entries_from k s (line_end s a + 1)))) (λ es. Ok (calls + calls_in es))) (sym read)
+-- the entries from place a on, by what is read there
+abbrev with_next : List ℕ → ℕ → ℕ → Result (Option Entry) Fault → Result (List Entry) Fault
+with_next s k a r = followed_by r (λ next. and_then next (entries_from k s (line_end s a + 1)))
 
-  some_lines : (k : ℕ) → length s ≤ k + a → (r ≡ Ok None → ⊥) → 0 < k
-  some_lines zero h ne = absurd (ne (read ∙ at_end s a (omega arith)))
-  some_lines (suc k) h ne = omega arith
+-- once there are lines enough, their number does not matter
+enough : (s : List ℕ) (j k a : ℕ) → length s ≤ j + a → length s ≤ k + a → entries_from j s a ≡ entries_from k s a
+enough s zero zero a h i = refl
+enough s zero (suc k) a h i = sym (ap (with_next s k a) (at_end s a (omega arith)))
+enough s (suc j) zero a h i = ap (with_next s j a) (at_end s a (omega arith))
+enough s (suc j) (suc k) a h i = ap (λ (rest : Result (List Entry) Fault). followed_by (next_at s a) (λ next. and_then next rest)) (enough s j k (line_end s a + 1) (omega arith) (omega arith))
 
-module _ (s : List ℕ) (whole : Result ℕ Fault) (a calls : ℕ) (c : Counting s whole a calls) where
-  pub counting_ends : next_at s a ≡ Ok None → whole ≡ Ok calls
-  counting_ends e = c.same ∙ by_lines c.lines
-    where
-      by_lines : (k : ℕ) → calls_from k s a calls ≡ Ok calls
-      by_lines zero = ap (λ n. Ok n) (add-zero calls)
-      by_lines (suc k) = step s a calls (Ok None) (sym e) k ∙ ap (λ n. Ok n) (add-zero calls)
+-- the calls among entries, after those that are counted
+abbrev counted : ℕ → Result (List Entry) Fault → Result ℕ Fault
+counted calls r = followed_by r (λ es. Ok (calls + calls_in es))
 
-  pub counting_fails : (f : Fault) → next_at s a ≡ Err f → whole ≡ Err f
-  counting_fails f e = c.same ∙ by_lines c.lines c.enough
-    where
-      by_lines : (k : ℕ) → length s ≤ k + a → calls_from k s a calls ≡ Err f
-      by_lines zero h = let z : 0 < 0 = some_lines s a calls (Err f) (sym e) 0 h (λ q. let x : ◌≡◌ {A = ℕ} 0 1 = cc in omega arith) in absurd (omega arith)
-      by_lines (suc k) h = step s a calls (Err f) (sym e) k
+abbrev pub counted_from : List ℕ → ℕ → ℕ → Result ℕ Fault
+counted_from s a calls = counted calls (entries_from (length s) s a)
 
-  pub counting_goes_on : (e : Entry) (calls' : ℕ) → next_at s a ≡ Ok (Some e) → ((es : List Entry) → calls + calls_in (e ∷ es) ≡ calls' + calls_in es) → Counting s whole (line_end s a + 1) calls'
-  counting_goes_on e calls' read more = by_lines c.lines c.enough c.same
-    where
-      by_rest : (q : Result (List Entry) Fault) → followed_by (followed_by q (λ es. Ok (e ∷ es))) (λ es. Ok (calls + calls_in es)) ≡ followed_by q (λ es. Ok (calls' + calls_in es))
-      by_rest (Ok es) = ap (λ n. Ok n) (more es)
-      by_rest (Err f) = refl
+pub none_counted : (r : Result (List Entry) Fault) → followed_by r (λ es. Ok (calls_in es)) ≡ counted 0 r
+none_counted (Ok es) = ap (λ n. Ok n) (omega arith)
+none_counted (Err f) = refl
 
-      by_lines : (k : ℕ) → length s ≤ k + a → whole ≡ calls_from k s a calls → Counting s whole (line_end s a + 1) calls'
-      by_lines zero h same = let z : 0 < 0 = some_lines s a calls (Ok (Some e)) (sym read) 0 h (λ q. let x : ◌≡◌ {A = ℕ} 0 1 = cc in omega arith) in absurd (omega arith)
-      by_lines (suc k) h same = record { lines = k; enough = omega arith; same = same ∙ step s a calls (Ok (Some e)) (sym read) k ∙ by_rest (entries_from k s (line_end s a + 1)) }
-
--- the same, by what the next line was
-module _ (s : Bor (List ℕ)) (whole : Result ℕ Fault) (a calls : ℕ) (c : Counting s.now whole a calls) (r : Result (Option Line) Fault) (next : ℕ) (n : NextLine s a r next) where
-  told : (q : Result (Option Line) Fault) → r ≡ q → next_at s.now a ≡ next_told q
-  told q e = sym n.value ∙ ap next_told e
+-- what is to be counted is what is left at place a of the sheet s, after so many calls; r is the next line there, and t the same sheet
+module _ (whole : Result ℕ Fault) (s t : Bor (List ℕ)) (a calls : ℕ) (left : whole ≡ counted_from s.now a calls) (r : Result (Option Line) Fault) (next : ℕ) (n : NextLine s a r next) (same : t ≡ s) where
+  by_line : (q : Result (Option Line) Fault) → r ≡ q → whole ≡ counted calls (with_next s.now (length s.now) a (next_told q))
+  by_line q e =
+      left ∙ ap (counted calls) (enough s.now (length s.now) (suc (length s.now)) a (omega arith) (omega arith))
+      ∙ ap (λ x. counted calls (with_next s.now (length s.now) a x)) (sym n.value ∙ ap next_told e)
 
   pub after_end : r ≡ Ok None → whole ≡ Ok calls
-  after_end e = counting_ends s.now whole a calls c (told (Ok None) e)
+  after_end e = by_line (Ok None) e ∙ ap (λ n. Ok n) (add-zero calls)
 
   pub after_fault : (f : Fault) → r ≡ Err f → whole ≡ Err f
-  after_fault f e = counting_fails s.now whole a calls c f (told (Err f) e)
+  after_fault f e = by_line (Err f) e
 
   pub later : (l : Line) → r ≡ Ok (Some l) → a < next
   later l e = omega (arith, n.after ∙ ap (next_place s.now a) e)
 
-  on : (l : Line) (calls' : ℕ) → r ≡ Ok (Some l) → ((es : List Entry) → calls + calls_in (entry_of l ∷ es) ≡ calls' + calls_in es) → Counting s.now whole next calls'
-  on l calls' e more =
-      subst (λ p. Counting s.now whole p calls') (sym (n.after ∙ ap (next_place s.now a) e))
-      (counting_goes_on s.now whole a calls c (entry_of l) calls' (told (Ok (Some l)) e) more)
+  after_line : (l : Line) (calls' : ℕ) → r ≡ Ok (Some l) → ((es : List Entry) → calls + calls_in (entry_of l ∷ es) ≡ calls' + calls_in es) → whole ≡ counted_from t.now next calls'
+  after_line l calls' e more =
+      by_line (Ok (Some l)) e ∙ by_rest (entries_from (length s.now) s.now (line_end s.now a + 1))
+      ∙ ap (λ p. counted_from s.now p calls') (sym (n.after ∙ ap (next_place s.now a) e)) ∙ ap (λ (x : Bor (List ℕ)). counted_from x.now next calls') (sym same)
+    where
+      by_rest : (q : Result (List Entry) Fault) → counted calls (followed_by q (λ es. Ok (entry_of l ∷ es))) ≡ counted calls' q
+      by_rest (Ok es) = ap (λ n. Ok n) (more es)
+      by_rest (Err f) = refl
 
-  pub after_call : (l : Line) (x : Call) → r ≡ Ok (Some l) → l ≡ line.Call x → Counting s.now whole next (calls + 1)
-  after_call l x e is = on (line.Call x) (calls + 1) (e ∙ ap (λ y. Ok (Some y)) is) (λ es. omega arith)
+  pub after_call : (l : Line) (x : Call) → r ≡ Ok (Some l) → l ≡ line.Call x → whole ≡ counted_from t.now next (calls + 1)
+  after_call l x e is = after_line (line.Call x) (calls + 1) (e ∙ ap (λ y. Ok (Some y)) is) (λ es. omega arith)
 
-  pub after_note : (l : Line) (text : Bor (List ℕ)) → r ≡ Ok (Some l) → l ≡ line.Note text → Counting s.now whole next calls
-  after_note l text e is = on (line.Note text) calls (e ∙ ap (λ y. Ok (Some y)) is) (λ es. refl)
-
-pub moved : (s t : Bor (List ℕ)) (whole : Result ℕ Fault) (a calls : ℕ) → t ≡ s → Counting s.now whole a calls → Counting t.now whole a calls
-moved s t whole a calls e c = subst (λ (x : Bor (List ℕ)). Counting x.now whole a calls) (sym e) c
+  pub after_note : (l : Line) (text : Bor (List ℕ)) → r ≡ Ok (Some l) → l ≡ line.Note text → whole ≡ counted_from t.now next calls
+  after_note l text e is = after_line (line.Note text) calls (e ∙ ap (λ y. Ok (Some y)) is) (λ es. refl)

@@ -15,10 +15,10 @@ use Rattle.verdict.proofs.ReadWords.{Stands, stands_as, taken_stands}
 -- a test with a fault on one side was passed on the other
 passed : {Y : Type 0} (t : Bool) (r : Result Y Fault) (f : Fault) (y : Y) → cond t r (Err f) ≡ Ok y → (t ≡ true) × (r ≡ Ok y)
 passed true r f y e = (refl, e)
-passed false r f y e = let z : ◌≡◌ {A = ℕ} 0 1 = cc in absurd (omega arith)
+passed false r f y e = absurd cc
 
 avoided : {Y : Type 0} (t : Bool) (r : Result Y Fault) (f : Fault) (y : Y) → cond t (Err f) r ≡ Ok y → r ≡ Ok y
-avoided true r f y e = let z : ◌≡◌ {A = ℕ} 0 1 = cc in absurd (omega arith)
+avoided true r f y e = absurd cc
 avoided false r f y e = e
 
 fabric_spelled : (k : ℕ) → k < length fabric_words → word_of fabric_words k ≡ fabric_word (fabric_named k)
@@ -53,15 +53,15 @@ module _ (s : List ℕ) (b : Board) (es : List Entry) (read : reading s ≡ hold
 
   by_entries : (c : Board) (r : Result (List Entry) Fault) → opened s ≡ Ok c → is_size c.shims c.lines ≡ true → rest ≡ r → (opened s ≡ Ok b) × (rest ≡ Ok es)
   by_entries c (Ok ds) board size entries = let h : holds c ds ≡ holds b es = simp (board, size, entries) at read in (cc, cc)
-  by_entries c (Err f) board size entries = let z : ◌≡◌ {A = ℕ} 0 1 = cc (simp (board, size, entries) at read) in absurd (omega arith)
+  by_entries c (Err f) board size entries = absurd (cc (simp (board, size, entries) at read))
 
   by_size : (c : Board) (t : Bool) → opened s ≡ Ok c → is_size c.shims c.lines ≡ t → (opened s ≡ Ok b) × (rest ≡ Ok es)
   by_size c true board size = by_entries c rest board size refl
-  by_size c false board size = let z : ◌≡◌ {A = ℕ} 0 1 = cc (simp (board, size) at read) in absurd (omega arith)
+  by_size c false board size = absurd (cc (simp (board, size) at read))
 
   by_board : (r : Result Board Fault) → opened s ≡ r → (opened s ≡ Ok b) × (rest ≡ Ok es)
   by_board (Ok c) board = by_size c (is_size c.shims c.lines) board refl
-  by_board (Err f) board = let z : ◌≡◌ {A = ℕ} 0 1 = cc (simp board at read) in absurd (omega arith)
+  by_board (Err f) board = absurd (cc (simp board at read))
 
 pub only_written : (s : List ℕ) → OnlyWritten s
 only_written s b es read =

@@ -1,8 +1,8 @@
 -- What is found at a place of a sheet whose bytes from there on are known.
-use Rattle.std.proofs.Common.{◌≡◌, ℕ, ◌+◌, ◌<◌, Bool, true, false, not, cond, eqb, List, [], ◌∷◌, ◌++◌, length, get_or, take, drop, Ok, Err, sym, refl, ap, ◌∙◌, add-zero, arith, length-drop}
+use Rattle.std.proofs.Common.{◌≡◌, ℕ, ◌+◌, ◌<◌, Bool, true, false, not, cond, eqb, List, [], ◌∷◌, ◌++◌, length, get_or, take, drop, Ok, Err, sym, refl, ap, ◌∙◌, ⊎_elim, add-zero, arith, length-drop}
 use Rattle.std.specs.List.{position_or_len}
 use Rattle.std.proofs.lemmas.List.{drop-drop, drop_at, take_at, get_or-drop}
-use Rattle.std.proofs.lemmas.Bool.{lt-leb}
+use Rattle.std.proofs.lemmas.Bool.{cases_Bool, lt-leb}
 use Rattle.words.specs.declared.fault.FaultKind.TheVariants.{WordCount, NoLineFeed}
 use Rattle.words.specs.Faults.{fault}
 use Rattle.sheet.specs.Reading.{unless, wanted, line_ends, word_at, word_end}
@@ -10,12 +10,23 @@ use Rattle.words.specs.Lengths.{line_feed, ends_word, word_length}
 
 -- no byte of w passes the test
 abbrev pub Free : (ℕ → Bool) → List ℕ → Type 0
-Free stop [] = Unit {0}
-Free stop (b ∷ bs) = (stop b ≡ false) × Free stop bs
+Free stop w = position_or_len stop w ≡ length w
+
+module _ (stop : ℕ → Bool) (b : ℕ) (bs : List ℕ) where
+  by_first : (t : Bool) → stop b ≡ t → position_or_len stop (b ∷ bs) ≡ cond (not t) (1 + position_or_len stop bs) 0
+  by_first t h = ap (λ t. cond (not t) (1 + position_or_len stop bs) 0) h
+
+  pub free_cons : stop b ≡ false → Free stop bs → Free stop (b ∷ bs)
+  free_cons h free = omega (arith, by_first false h, free)
+
+  pub free_parts : Free stop (b ∷ bs) → (stop b ≡ false) × Free stop bs
+  free_parts free = ⊎_elim (λ h. absurd (omega (arith, by_first true h, free))) (λ h. (h, omega (arith, by_first false h, free))) (cases_Bool (stop b))
 
 pub before_free : (stop : ℕ → Bool) (w rest : List ℕ) → Free stop w → position_or_len stop (w ++ rest) ≡ length w + position_or_len stop rest
 before_free stop [] rest free = omega arith
-before_free stop (b ∷ bs) rest free = ap (λ t. cond (not t) (1 + position_or_len stop (bs ++ rest)) 0) free.0 ∙ omega (arith, before_free stop bs rest free.1)
+before_free stop (b ∷ bs) rest free =
+    let parts = free_parts stop b bs free in
+    by_first stop b (bs ++ rest) false parts.0 ∙ omega (arith, before_free stop bs rest parts.1)
 
 -- the rest of the sheet after its first n bytes from place a on
 pub drop_more : (s p q : List ℕ) (a : ℕ) → drop a s ≡ p ++ q → drop (a + length p) s ≡ q

@@ -49,7 +49,7 @@ module _ {X : Type 0} (line : X → List ℕ) (Good : X → Type 0) where
       subst (LineRead s a) is (stands_as same next (stands_on (taken_stands (word_length (drop a s)) s a) rest.0), made.1)
 
 op_found : (w : List ℕ) (op : Op) → op_of w ≡ Some op → w ≡ op_word op
-op_found w op = or Load (or Store (or Fence (or Evict (or Up (or Down (λ e. let z : ◌≡◌ {A = ℕ} 0 1 = cc in absurd (omega arith)))))))
+op_found w op = or Load (or Store (or Fence (or Evict (or Up (or Down (λ e. absurd cc))))))
   where
     by_test : (o : Op) (r : Option Op) (t : Bool) → (r ≡ Some op → w ≡ op_word op) → bytes_eq w (op_word o) ≡ t → cond t (Some o) r ≡ Some op → w ≡ op_word op
     by_test o r true later same e = let is : o ≡ op = cc in (bytes_eq-Decides w (op_word o)).0 same ∙ ap op_word is
@@ -90,7 +90,7 @@ module _ (s : List ℕ) (a : ℕ) where
       )
 
   call_read : (e : Entry) (o : Option Op) → op_of (word_at s a) ≡ o → call_at s a o ≡ Ok e → EntryRead s a e
-  call_read e None found read = let z : ◌≡◌ {A = ℕ} 0 1 = cc in absurd (omega arith)
+  call_read e None found read = absurd cc
   call_read e (Some op) found read = line_read entry_line WellFormed (op_word op) (op_operands op) (λ vs. a_call (call_of op vs)) (call_written op) s a e (op_found (word_at s a) op found) read
 
   entry_read : (e : Entry) → entry_at s a ≡ Ok e → EntryRead s a e
@@ -110,7 +110,7 @@ none_read s a es h is = subst (EntriesRead s a) is (drop_all a s h, tt)
 -- one more entry before those that r read
 module _ (s : List ℕ) (a : ℕ) (es : List Entry) (r : Result (List Entry) Fault) (rest : (later : List Entry) → r ≡ Ok later → EntriesRead s (line_end s a + 1) later) where
   by_entry : (q : Result Entry Fault) → entry_at s a ≡ q → followed_by (followed_by q (λ e. Ok (Some e))) (λ next. and_then next r) ≡ Ok es → EntriesRead s a es
-  by_entry (Err f) here read = let z : ◌≡◌ {A = ℕ} 0 1 = cc in absurd (omega arith)
+  by_entry (Err f) here read = absurd cc
   by_entry (Ok e) here read =
       let one = followed_by_ok r (λ later. Ok (e ∷ later)) es read in
       let is : e ∷ one.0 ≡ es = cc one.2 in

@@ -59,11 +59,11 @@ number_found w v e =
     let small = leb-true (value_after 0 w) largest both.1 in
     let is : value_after 0 w ≡ v = cc (simp t at e) in
     (sym (decimal-digits_value own w d.0 d.1 d.2 (omega arith)) ∙ ap decimal is, omega arith))
-    (λ f. let z : ◌≡◌ {A = ℕ} 0 1 = cc (simp f at e) in absurd (omega arith))
+    (λ f. absurd (cc (simp f at e)))
     (cases_Bool (plain w && leb (value_after 0 w) largest))
 
 index_found : (ws : List (List ℕ)) (w : List ℕ) (k : ℕ) → index_of ws w ≡ Some k → (w ≡ word_of ws k) × (k < length ws)
-index_found [] w k e = let z : ◌≡◌ {A = ℕ} 0 1 = cc in absurd (omega arith)
+index_found [] w k e = absurd cc
 index_found (v ∷ vs) w k e = by_test (bytes_eq w v) (index_of vs w) refl (index_found vs w) e
   where
     by_test : (t : Bool) (r : Option ℕ) → bytes_eq w v ≡ t → ((j : ℕ) → r ≡ Some j → (w ≡ word_of vs j) × (j < length vs)) → cond t (Some 0) (option_map suc r) ≡ Some k → (w ≡ word_of (v ∷ vs) k) × (k < suc (length vs))
@@ -74,7 +74,7 @@ index_found (v ∷ vs) w k e = by_test (bytes_eq w v) (index_of vs w) refl (inde
         let is : suc j ≡ k = cc in
         let found = later j refl in
         (subst (λ j. w ≡ word_of (v ∷ vs) j) is found.0, omega arith)
-    by_test false None same later e = let z : ◌≡◌ {A = ℕ} 0 1 = cc in absurd (omega arith)
+    by_test false None same later e = absurd cc
 
 operand_found : (o : Operand) (w : List ℕ) (v : ℕ) → operand_of o w ≡ Some v → (w ≡ spelled o v) × Fit o v
 operand_found a_number w v e = number_found w v e
@@ -91,7 +91,7 @@ operand_read o s a v stops e =
   where
     known_some : (kind : FaultKind) (place : ℕ) (r : Option ℕ) (v : ℕ) → known kind place r ≡ Ok v → r ≡ Some v
     known_some kind place (Some x) v e = cc
-    known_some kind place None v e = let z : ◌≡◌ {A = ℕ} 0 1 = cc in absurd (omega arith)
+    known_some kind place None v e = absurd cc
 
 -- the operands after it, with the end of the line
 pub operands_read : (os : List Operand) (s : List ℕ) (a : ℕ) (vs : List ℕ) → Stops s a → operands_at os s a ≡ Ok vs → Stands s a (after_word (spelled_all os vs)) (operands_end os s a) × Fits os vs

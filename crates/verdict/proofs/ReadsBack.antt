@@ -1,7 +1,7 @@
 -- A well-formed sheet is read as what it was written from.
-use Rattle.std.proofs.Common.{◌≡◌, ℕ, zero, suc, ◌+◌, ◌<◌, ◌≤◌, Bool, true, false, not, cond, eqb, List, [], ◌∷◌, ◌++◌, length, get_or, take, drop, decimal, Some, None, Ok, Err, Result, sym, refl, ap, ◌∙◌, subst, ⊎_elim, append_assoc, arith, length-append, length-drop}
+use Rattle.std.proofs.Common.{◌≡◌, ℕ, zero, suc, ◌+◌, ◌<◌, ◌≤◌, Bool, true, false, cond, eqb, List, [], ◌∷◌, ◌++◌, length, get_or, take, drop, decimal, Some, None, Ok, Err, Result, sym, refl, ap, ◌∙◌, append_assoc, arith, length-append, length-drop}
 use Rattle.std.proofs.lemmas.List.{take_at}
-use Rattle.std.proofs.lemmas.Bool.{cases_Bool, or_parts, le-leb, lt-leb, le-ltb}
+use Rattle.std.proofs.lemmas.Bool.{or_parts, le-leb, lt-leb, le-ltb}
 use Rattle.std.specs.List.{flat_map, AllByRecursion}
 use Rattle.std.specs.Str.{bytes_eq}
 use Rattle.rules.specs.declared.call.Call.TheVariants as call
@@ -20,7 +20,7 @@ use Rattle.verdict.specs.Laws.{ReadsBack}
 use Rattle.sheet.proofs.Calls.{initial}
 use Rattle.sheet.proofs.Ends.{followed_by_ok, wanted_within}
 use Rattle.verdict.proofs.Places as places
-use Rattle.verdict.proofs.Places.{Free, before_free}
+use Rattle.verdict.proofs.Places.{Free, free_cons, free_parts, before_free}
 use Rattle.verdict.proofs.Spelling.{spelled, spelled_all, Fits, spelled_back, spelled_free}
 use Rattle.words.specs.Lengths.{space, line_feed, ends_word, ends_line, line_length}
 
@@ -46,47 +46,40 @@ no_feed : (b : ℕ) → ends_word b ≡ false → eqb b line_feed ≡ false
 no_feed b h = (or_parts (eqb b space) (eqb b line_feed) h).1
 
 -- a word at place a, with more words after it
-module _ (s : List ℕ) (a x : ℕ) (xs : List ℕ) (ws : List (List ℕ)) (t : List ℕ) (e : drop a s ≡ (x ∷ xs ++ after_word ws) ++ t) (free : Free ends_word (x ∷ xs)) where
-  split : drop a s ≡ (x ∷ xs) ++ first_after ws ∷ rest_after ws t
-  split = e ∙ append_assoc (x ∷ xs) (after_word ws) t ∙ ap (λ r. (x ∷ xs) ++ r) (after_split ws t)
+module _ (s : List ℕ) (a : ℕ) (w : List ℕ) (ws : List (List ℕ)) (t : List ℕ) (some : 0 < length w) (free : Free ends_word w) (e : drop a s ≡ (w ++ after_word ws) ++ t) where
+  begins : (wanted s a ≡ Ok tt) × (get_or s a 0 ≡ get_or w 0 0)
+  begins = by_byte w some free (after_word ws ++ t) (e ∙ append_assoc w (after_word ws) t)
+    where
+      by_byte : (w : List ℕ) → 0 < length w → Free ends_word w → (u : List ℕ) → drop a s ≡ w ++ u → (wanted s a ≡ Ok tt) × (get_or s a 0 ≡ get_or w 0 0)
+      by_byte [] some free u e = absurd (omega arith)
+      by_byte (x ∷ xs) some free u e = (places.is_wanted s a x (xs ++ u) e (no_feed x (free_parts ends_word x xs free).0), places.byte_is s a x (xs ++ u) e)
 
-  word_wanted : wanted s a ≡ Ok tt
-  word_wanted = places.is_wanted s a x ((xs ++ after_word ws) ++ t) e (no_feed x free.0)
+  split : drop a s ≡ w ++ first_after ws ∷ rest_after ws t
+  split = e ∙ append_assoc w (after_word ws) t ∙ ap (λ r. w ++ r) (after_split ws t)
 
-  word_first : get_or s a 0 ≡ x
-  word_first = places.byte_is s a x ((xs ++ after_word ws) ++ t) e
-
-  word_read : word_at s a ≡ x ∷ xs
-  word_read = places.word_is s a (x ∷ xs) (first_after ws) (rest_after ws t) split free (first_ends ws)
+  word_read : word_at s a ≡ w
+  word_read = places.word_is s a w (first_after ws) (rest_after ws t) split free (first_ends ws)
 
   word_after : drop (word_end s a) s ≡ after_word ws ++ t
-  word_after = places.after_word_is s a (x ∷ xs) (first_after ws) (rest_after ws t) split free (first_ends ws) ∙ sym (after_split ws t)
+  word_after = places.after_word_is s a w (first_after ws) (rest_after ws t) split free (first_ends ws) ∙ sym (after_split ws t)
 
 -- operands are read as their values
-some_byte : (o : Operand) (w : List ℕ) (v : ℕ) → operand_of o w ≡ Some v → (x : ℕ) × ((xs : List ℕ) × (w ≡ x ∷ xs))
-some_byte o (x ∷ xs) v e = (x, (xs, refl))
-some_byte Operand.a_number [] v e = let z : ◌≡◌ {A = ℕ} 0 1 = cc in absurd (omega arith)
-some_byte o [] v e = let z : ◌≡◌ {A = ℕ} 0 1 = cc in absurd (omega arith)
+some_word : (o : Operand) (w : List ℕ) (v : ℕ) → operand_of o w ≡ Some v → 0 < length w
+some_word o (x ∷ xs) v e = omega arith
+some_word Operand.a_number [] v e = absurd cc
+some_word o [] v e = absurd cc
 
-module _ (o : Operand) (w : List ℕ) (v : ℕ) (reads : operand_of o w ≡ Some v) (free : Free ends_word w) (s : List ℕ) (a : ℕ) (ws : List (List ℕ)) (t : List ℕ) (e : drop a s ≡ after_word (w ∷ ws) ++ t) where
-  module _ (x : ℕ) (xs : List ℕ) (is : w ≡ x ∷ xs) where
-    next : drop (a + 1) s ≡ (x ∷ xs ++ after_word ws) ++ t
-    next = places.drop_next s a space ((w ++ after_word ws) ++ t) e ∙ ap (λ u. (u ++ after_word ws) ++ t) is
-
-    free' : Free ends_word (x ∷ xs)
-    free' = subst (Free ends_word) is free
-
-    by_byte : (operand_at o s a ≡ Ok v) × (drop (operand_end s a) s ≡ after_word ws ++ t)
-    by_byte = (
+operand_read : (o : Operand) (w : List ℕ) (v : ℕ) → operand_of o w ≡ Some v → Free ends_word w → (s : List ℕ) (a : ℕ) (ws : List (List ℕ)) (t : List ℕ) → drop a s ≡ after_word (w ∷ ws) ++ t
+    → (operand_at o s a ≡ Ok v) × (drop (operand_end s a) s ≡ after_word ws ++ t)
+operand_read o w v reads free s a ws t e =
+    let some = some_word o w v reads in
+    let next = places.drop_next s a space ((w ++ after_word ws) ++ t) e in (
       ap (λ (r : Result Unit Fault). followed_by r (λ _. followed_by (wanted s (a + 1)) (λ _. known (not_an o) (a + 1) (operand_of o (word_at s (a + 1)))))) (places.is_wanted s a space ((w ++ after_word ws) ++ t) e refl)
-          ∙ ap (λ (r : Result Unit Fault). followed_by r (λ _. known (not_an o) (a + 1) (operand_of o (word_at s (a + 1))))) (word_wanted s (a + 1) x xs ws t next free')
-          ∙ ap (λ u. known (not_an o) (a + 1) (operand_of o u)) (word_read s (a + 1) x xs ws t next free' ∙ sym is)
+          ∙ ap (λ (r : Result Unit Fault). followed_by r (λ _. known (not_an o) (a + 1) (operand_of o (word_at s (a + 1))))) (begins s (a + 1) w ws t some free next).0
+          ∙ ap (λ u. known (not_an o) (a + 1) (operand_of o u)) (word_read s (a + 1) w ws t some free next)
           ∙ ap (known (not_an o) (a + 1)) reads,
-      word_after s (a + 1) x xs ws t next free',
+      word_after s (a + 1) w ws t some free next,
     )
-
-  operand_read : (operand_at o s a ≡ Ok v) × (drop (operand_end s a) s ≡ after_word ws ++ t)
-  operand_read = let b = some_byte o w v reads in by_byte b.0 b.1.0 b.1.1
 
 operands_read : (os : List Operand) (vs s : List ℕ) (a : ℕ) (t : List ℕ) → Fits os vs → drop a s ≡ after_word (spelled_all os vs) ++ t → operands_at os s a ≡ Ok vs
 operands_read [] [] s a t fits e = ap (λ (r : Result Unit Fault). followed_by r (λ _. Ok [])) (places.line_ends_here s a line_feed t e refl)
@@ -98,8 +91,8 @@ operands_read os vs s a t fits e = absurd fits
 
 -- how long a line of words is
 free_line : (w : List ℕ) → Free ends_word w → Free ends_line w
-free_line [] f = tt
-free_line (b ∷ bs) f = (no_feed b f.0, free_line bs f.1)
+free_line [] f = refl
+free_line (b ∷ bs) f = let parts = free_parts ends_word b bs f in free_cons ends_line b bs (no_feed b parts.0) (free_line bs parts.1)
 
 word_line_length : (w : List ℕ) (ws : List (List ℕ)) (t : List ℕ) → Free ends_word w → line_length ((w ++ after_word ws) ++ t) ≡ length w + line_length (after_word ws ++ t)
 word_line_length w ws t free = ap line_length (append_assoc w (after_word ws) t) ∙ before_free ends_line w (after_word ws ++ t) (free_line w free)
@@ -116,56 +109,54 @@ all_free [] vs fits = tt
 all_free (o ∷ os) [] fits = absurd fits
 all_free (o ∷ os) (v ∷ vs) fits = (spelled_free o v fits.0, all_free os vs fits.1)
 
--- the word that a call begins with, after its first byte
-abbrev others : Op → List ℕ
-others op = drop 1 (op_word op)
+-- what is read of a line that is a word and operands of these values
+record WordsRead (s : List ℕ) (a : ℕ) (w : List ℕ) (os : List Operand) (vs : List ℕ) : Type 0 where
+  here : wanted s a ≡ Ok tt
+  first : get_or s a 0 ≡ get_or w 0 0
+  word : word_at s a ≡ w
+  operands : operands_at os s (word_end s a) ≡ Ok vs
+  ends : line_end s a + 1 ≡ a + length (words_line (w ∷ spelled_all os vs))
 
+words_read : (s : List ℕ) (a : ℕ) (w : List ℕ) (os : List Operand) (vs t : List ℕ) → 0 < length w → Free ends_word w → Fits os vs → drop a s ≡ words_line (w ∷ spelled_all os vs) ++ t
+    → WordsRead s a w os vs
+words_read s a w os vs t some free fits e =
+    let ws : List (List ℕ) = spelled_all os vs in
+    record {
+      here = (begins s a w ws t some free e).0;
+      first = (begins s a w ws t some free e).1;
+      word = word_read s a w ws t some free e;
+      operands = operands_read os vs s (word_end s a) t fits (word_after s a w ws t some free e);
+      ends = omega (arith, ap line_length e, words_length w ws t free (all_free os vs fits));
+    }
+
+-- what is to be known of a call's name
 record Name (op : Op) : Type 0 where
-  shape : op_word op ≡ initial op ∷ others op
-  free : Free ends_word (initial op ∷ others op)
+  some : 0 < length (op_word op)
+  free : Free ends_word (op_word op)
   no_note : eqb (initial op) hash ≡ false
-  named : op_of (initial op ∷ others op) ≡ Some op
+  named : op_of (op_word op) ≡ Some op
 
 name : (op : Op) → Name op
-name Load = record { shape = refl; free = (refl, (refl, (refl, (refl, tt)))); no_note = refl; named = refl }
-name Store = record { shape = refl; free = (refl, (refl, (refl, (refl, (refl, tt))))); no_note = refl; named = refl }
-name Fence = record { shape = refl; free = (refl, (refl, (refl, (refl, (refl, tt))))); no_note = refl; named = refl }
-name Evict = record { shape = refl; free = (refl, (refl, (refl, (refl, (refl, tt))))); no_note = refl; named = refl }
-name Up = record { shape = refl; free = (refl, (refl, tt)); no_note = refl; named = refl }
-name Down = record { shape = refl; free = (refl, (refl, (refl, (refl, tt)))); no_note = refl; named = refl }
+name Load = record { some = omega arith; free = refl; no_note = refl; named = refl }
+name op = record { some = omega arith; free = refl; no_note = refl; named = refl }
 
 -- the entry at place a, and where its line ends
 abbrev EntryAt : List ℕ → ℕ → Entry → List ℕ → Type 0
 EntryAt s a e line = (entry_at s a ≡ Ok e) × (line_end s a + 1 ≡ a + length line)
 
-module _ (op : Op) (vs s : List ℕ) (a : ℕ) (t : List ℕ) (fits : Fits (op_operands op) vs) where
-  abbrev ws : List (List ℕ)
-  ws = spelled_all (op_operands op) vs
-
-  call_by_name : Name op → drop a s ≡ words_line ((initial op ∷ others op) ∷ ws) ++ t → EntryAt s a (a_call (call_of op vs)) (words_line ((initial op ∷ others op) ∷ ws))
-  call_by_name n e = (
-    ap (λ (r : Result Unit Fault). followed_by r (λ _. cond (eqb (get_or s a 0) hash) (note_at s a) (call_at s a (op_of (word_at s a))))) (word_wanted s a (initial op) (others op) ws t e n.free)
-        ∙ ap (λ (b : Bool). cond b (note_at s a) (call_at s a (op_of (word_at s a)))) (ap (λ b. eqb b hash) (word_first s a (initial op) (others op) ws t e n.free) ∙ n.no_note)
-        ∙ ap (call_at s a) (ap op_of (word_read s a (initial op) (others op) ws t e n.free) ∙ n.named)
-        ∙ ap (λ (r : Result (List ℕ) Fault). followed_by r (λ us. Ok (a_call (call_of op us)))) (operands_read (op_operands op) vs s (word_end s a) t fits (word_after s a (initial op) (others op) ws t e n.free)),
-    omega (arith, ap line_length e, words_length (initial op ∷ others op) ws t n.free (all_free (op_operands op) vs fits)),
-  )
-
-  call_read : drop a s ≡ words_line (op_word op ∷ ws) ++ t → EntryAt s a (a_call (call_of op vs)) (words_line (op_word op ∷ ws))
-  call_read e =
-      let n = name op in
-      subst (λ w. EntryAt s a (a_call (call_of op vs)) (words_line (w ∷ ws))) (sym n.shape)
-      (call_by_name n (subst (λ w. drop a s ≡ words_line (w ∷ ws) ++ t) n.shape e))
+call_read : (op : Op) (vs s : List ℕ) (a : ℕ) (t : List ℕ) → Fits (op_operands op) vs → drop a s ≡ words_line (op_word op ∷ spelled_all (op_operands op) vs) ++ t
+    → EntryAt s a (a_call (call_of op vs)) (words_line (op_word op ∷ spelled_all (op_operands op) vs))
+call_read op vs s a t fits e =
+    let n = name op in
+    let r = words_read s a (op_word op) (op_operands op) vs t n.some n.free fits e in (
+      ap (λ (h : Result Unit Fault). followed_by h (λ _. cond (eqb (get_or s a 0) hash) (note_at s a) (call_at s a (op_of (word_at s a))))) r.here
+          ∙ ap (λ (b : Bool). cond b (note_at s a) (call_at s a (op_of (word_at s a)))) (ap (λ b. eqb b hash) r.first ∙ n.no_note)
+          ∙ ap (call_at s a) (ap op_of r.word ∙ n.named)
+          ∙ ap (λ (q : Result (List ℕ) Fault). followed_by q (λ us. Ok (a_call (call_of op us)))) r.operands,
+      r.ends,
+    )
 
 -- notes
-free_from : (text : List ℕ) → line_length text ≡ length text → Free ends_line text
-free_from [] e = tt
-free_from (b ∷ bs) e =
-    ⊎_elim
-    (λ h. absurd (omega (arith, ap (λ u. cond (not u) (1 + line_length bs) 0) h)))
-    (λ h. (h, free_from bs (omega (arith, ap (λ u. cond (not u) (1 + line_length bs) 0) h))))
-    (cases_Bool (ends_line b))
-
 module _ (s : List ℕ) (a : ℕ) (b : ℕ) (bs t : List ℕ) (mark : b ≡ hash) (free : Free ends_line (b ∷ bs)) (e : drop a s ≡ (b ∷ bs) ++ line_feed ∷ t) where
   note_length : line_length (drop a s) ≡ length (b ∷ bs)
   note_length = ap line_length e ∙ before_free ends_line (b ∷ bs) (line_feed ∷ t) free ∙ omega arith
@@ -178,7 +169,7 @@ module _ (s : List ℕ) (a : ℕ) (b : ℕ) (bs t : List ℕ) (mark : b ≡ hash
 
   note_read : entry_at s a ≡ Ok (a_note (b ∷ bs))
   note_read =
-      ap (λ (r : Result Unit Fault). followed_by r (λ _. cond (eqb (get_or s a 0) hash) (note_at s a) (call_at s a (op_of (word_at s a))))) (places.is_wanted s a b (bs ++ line_feed ∷ t) e free.0)
+      ap (λ (r : Result Unit Fault). followed_by r (λ _. cond (eqb (get_or s a 0) hash) (note_at s a) (call_at s a (op_of (word_at s a))))) (places.is_wanted s a b (bs ++ line_feed ∷ t) e (free_parts ends_line b bs free).0)
       ∙ ap (λ x. cond (eqb x hash) (note_at s a) (call_at s a (op_of (word_at s a)))) (places.byte_is s a b (bs ++ line_feed ∷ t) e ∙ mark)
       ∙ ap (λ (r : Result Unit Fault). followed_by r (λ _. Ok (a_note (line_at s a)))) (places.line_ends_here s (line_end s a) line_feed t note_end refl)
       ∙ ap (λ u. Ok (a_note u)) note_text
@@ -192,9 +183,8 @@ entry_read (a_call (call.Up shim)) s a t x e = call_read Up (shim ∷ []) s a t 
 entry_read (a_call (call.Down shim)) s a t x e = call_read Down (shim ∷ []) s a t (x, tt) e
 entry_read (a_note []) s a t (mark, long) e = absurd (omega arith)
 entry_read (a_note (b ∷ bs)) s a t (mark, long) e =
-    let free = free_from (b ∷ bs) long in
     let split : drop a s ≡ (b ∷ bs) ++ line_feed ∷ t = e ∙ append_assoc (b ∷ bs) (line_feed ∷ []) t in
-    (note_read s a b bs t mark free split, omega (arith, note_length s a b bs t mark free split, length-append (b ∷ bs) (line_feed ∷ [])))
+    (note_read s a b bs t mark long split, omega (arith, note_length s a b bs t mark long split, length-append (b ∷ bs) (line_feed ∷ [])))
 
 -- the entries of a sheet, with lines enough
 module _ (s : List ℕ) (a : ℕ) where
@@ -240,26 +230,17 @@ fabric_back : (f : FabricName) → fabric_named (fabric_number f) ≡ f
 fabric_back Ring = refl
 fabric_back f = refl
 
-module _ (s : List ℕ) (a : ℕ) (b : Board) (t : List ℕ) (fit : BoardFits b) (e : drop a s ≡ words_line (board_word ∷ spelled_all board_operands (values b)) ++ t) where
-  fits : Fits board_operands (values b)
-  fits = (fit.0, (fit.1, (fabric_fits b.fabric, tt)))
+board_words_read : (s : List ℕ) (a : ℕ) (b : Board) (t : List ℕ) → BoardFits b → drop a s ≡ words_line (board_word ∷ spelled_all board_operands (values b)) ++ t
+    → WordsRead s a board_word board_operands (values b)
+board_words_read s a b t fit e = words_read s a board_word board_operands (values b) t (omega arith) refl (fit.0, (fit.1, (fabric_fits b.fabric, tt))) e
 
-  free : Free ends_word board_word
-  free = (refl, (refl, (refl, (refl, (refl, tt)))))
-
-  abbrev bs : List (List ℕ)
-  bs = spelled_all board_operands (values b)
-
-  board_read : board_at s a ≡ Ok b
-  board_read =
-      ap (λ (u : Bool). cond u (Err (fault WordCount (length s))) (board_line_at s a)) (lt-leb (length s) a (wanted_within s a (word_wanted s a (get_or board_word 0 0) (drop 1 board_word) bs t e free)).0)
-      ∙ ap (λ (r : Result Unit Fault). followed_by (followed_by r (λ _. unless (bytes_eq (word_at s a) board_word) (fault UnknownWord a))) (λ _. followed_by (operands_at board_operands s (word_end s a)) (λ vs. Ok (board_of vs)))) (word_wanted s a (get_or board_word 0 0) (drop 1 board_word) bs t e free)
-      ∙ ap (λ w. followed_by (unless (bytes_eq w board_word) (fault UnknownWord a)) (λ _. followed_by (operands_at board_operands s (word_end s a)) (λ vs. Ok (board_of vs)))) (word_read s a (get_or board_word 0 0) (drop 1 board_word) bs t e free)
-      ∙ ap (λ (r : Result (List ℕ) Fault). followed_by r (λ vs. Ok (board_of vs))) (operands_read board_operands (values b) s (word_end s a) t fits (word_after s a (get_or board_word 0 0) (drop 1 board_word) bs t e free))
-      ∙ ap (λ (f : FabricName). Ok (record { shims = b.shims; lines = b.lines; fabric = f })) (fabric_back b.fabric)
-
-  board_ends : line_end s a + 1 ≡ a + length (words_line (board_word ∷ bs))
-  board_ends = omega (arith, ap line_length e, words_length board_word bs t free (all_free board_operands (values b) fits))
+board_read : (s : List ℕ) (a : ℕ) (b : Board) → WordsRead s a board_word board_operands (values b) → board_at s a ≡ Ok b
+board_read s a b r =
+    ap (λ (u : Bool). cond u (Err (fault WordCount (length s))) (board_line_at s a)) (lt-leb (length s) a (wanted_within s a r.here).0)
+    ∙ ap (λ (h : Result Unit Fault). followed_by (followed_by h (λ _. unless (bytes_eq (word_at s a) board_word) (fault UnknownWord a))) (λ _. followed_by (operands_at board_operands s (word_end s a)) (λ vs. Ok (board_of vs)))) r.here
+    ∙ ap (λ w. followed_by (unless (bytes_eq w board_word) (fault UnknownWord a)) (λ _. followed_by (operands_at board_operands s (word_end s a)) (λ vs. Ok (board_of vs)))) r.word
+    ∙ ap (λ (q : Result (List ℕ) Fault). followed_by q (λ vs. Ok (board_of vs))) r.operands
+    ∙ ap (λ (f : FabricName). Ok (record { shims = b.shims; lines = b.lines; fabric = f })) (fabric_back b.fabric)
 
 pub reads_back : (s : List ℕ) → ReadsBack s
 reads_back s b es w small =
@@ -267,11 +248,12 @@ reads_back s b es w small =
     let words : List ℕ = words_line (board_word ∷ spelled_all board_operands (values b)) in
     let line : drop (length header) s ≡ words ++ flat_map entry_line es =
     ap (drop (length header)) w.bytes ∙ ap (λ f. words_line (board_word ∷ decimal b.shims ∷ decimal b.lines ∷ f ∷ []) ++ flat_map entry_line es) (fabric_spelled b.fabric) in
+    let r = board_words_read s (length header) b (flat_map entry_line es) w.board line in
     let board : opened s ≡ Ok b =
     ap (λ (u : Bool). cond u (Err (fault TooLong size_limit)) (cond (bytes_eq (take (length header) s) header) (board_at s (length header)) (Err (fault Header 0)))) (le-ltb size_limit (length s) small)
     ∙ ap (λ u. cond (bytes_eq (take (length header) u) header) (board_at s (length header)) (Err (fault Header 0))) w.bytes
-    ∙ board_read s (length header) b (flat_map entry_line es) w.board line in
+    ∙ board_read s (length header) b r in
     let entries : entries_from (length s) s (board_end s) ≡ Ok es =
     entries_read es (length s) s (board_end s) w.entries (omega arith)
-    (ap (λ n. drop n s) (board_ends s (length header) b (flat_map entry_line es) w.board line) ∙ places.drop_more s words (flat_map entry_line es) (length header) line) in
+    (ap (λ n. drop n s) r.ends ∙ places.drop_more s words (flat_map entry_line es) (length header) line) in
     ap (with_board s) board ∙ ap (λ (r : Result (List Entry) Fault). cond (is_size b.shims b.lines) (entries_of b r) wrong_board) entries

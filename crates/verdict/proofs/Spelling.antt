@@ -1,12 +1,12 @@
 -- The words of operands.
-use Rattle.std.proofs.Common.{◌≡◌, ℕ, zero, suc, ◌^◌, ◌<◌, ◌≤◌, true, false, cond, ◌&&◌, ltb, leb, List, [], ◌∷◌, length, get_or, Some, None, decimal, refl, ap, ◌∙◌, ⊎_elim, arith, rules}
+use Rattle.std.proofs.Common.{◌≡◌, ℕ, suc, ◌^◌, ◌<◌, ◌≤◌, true, false, cond, ◌&&◌, ltb, leb, List, [], ◌∷◌, length, get_or, Some, None, decimal, refl, ap, ◌∙◌, ⊎_elim, arith, rules}
 use Rattle.std.proofs.lemmas.Fmt.{decimal_digit, digits_decimal, digits_value-decimal, decimal_nonempty, first_decimal}
 use Rattle.std.proofs.lemmas.Bool.{and_parts, and_from, lt-ltb, le-leb, cases_eq}
 use Rattle.std.specs.Char.{is_ascii_digit}
 use Rattle.std.specs.Str.{all_ascii_digits}
 use Rattle.sheet.specs.Format.{strength_words, word_of}
 use Rattle.sheet.specs.Reading.{fabric_words, Operand, a_number, a_strength, a_fabric, operand_of}
-use Rattle.verdict.proofs.Places.{Free}
+use Rattle.verdict.proofs.Places.{Free, free_cons}
 use Rattle.words.proofs.Digits.{own}
 use Rattle.words.specs.Lengths.{ends_word}
 use Rattle.words.specs.Numbers.{largest, plain, value_after, number_of}
@@ -34,8 +34,8 @@ Fits (o ∷ os) (v ∷ vs) = Fit o v × Fits os vs
 Fits os vs = ⊥
 
 digits_free : (w : List ℕ) → all_ascii_digits w ≡ true → Free ends_word w
-digits_free [] e = tt
-digits_free (c ∷ cs) e = let p = and_parts (is_ascii_digit c) (all_ascii_digits cs) e in (digit_ends_nothing c p.0, digits_free cs p.1)
+digits_free [] e = refl
+digits_free (c ∷ cs) e = let p = and_parts (is_ascii_digit c) (all_ascii_digits cs) e in free_cons ends_word c cs (digit_ends_nothing c p.0) (digits_free cs p.1)
   where
     digit_ends_nothing : (c : ℕ) → is_ascii_digit c ≡ true → ends_word c ≡ false
     digit_ends_nothing c h = search rules
@@ -66,9 +66,6 @@ spelled_back o v h = refl
 
 pub spelled_free : (o : Operand) (v : ℕ) → Fit o v → Free ends_word (spelled o v)
 spelled_free a_number v h = digits_free (decimal v) (digits_decimal own v (omega arith))
-spelled_free a_strength (suc (suc (suc zero))) h = (refl, (refl, tt))
 spelled_free a_strength (suc (suc (suc (suc v)))) h = absurd (omega arith)
-spelled_free a_strength v h = (refl, (refl, (refl, tt)))
-spelled_free a_fabric zero h = (refl, (refl, (refl, (refl, tt))))
 spelled_free a_fabric (suc (suc (suc v))) h = absurd (omega arith)
-spelled_free a_fabric v h = (refl, (refl, (refl, (refl, (refl, (refl, tt))))))
+spelled_free o v h = refl

@@ -1,12 +1,12 @@
 -- What a check tells of a sheet, and how it is printed.
-use Rattle.std.specs.Prelude.{ℕ, suc, ◌+◌, List, [], ◌∷◌, ◌++◌, take, count_by, Ok, Err, codes, decimal, Result, ◌==◌}
+use Rattle.std.specs.Prelude.{ℕ, suc, ◌+◌, List, [], ◌∷◌, ◌++◌, take, count_by, Ok, Err, codes, decimal, Result}
 use Rattle.words.specs.declared.fault.Fault.{Fault}
 use Rattle.words.specs.Faults.{fault_number}
 use Rattle.sheet.specs.Format.{Entry, a_call, a_note}
 use Rattle.sheet.specs.Reading.{Reading, faulty, wrong_board, holds, reading}
 use Rattle.verdict.specs.declared.verdict.Flaw.{Flaw}
 use Rattle.verdict.specs.declared.verdict.Flaw.TheVariants as flaw
-use Rattle.words.specs.Lengths.{line_feed}
+use Rattle.words.specs.Lengths.{line_feed, ends_line}
 
 -- the number of calls among entries
 abbrev pub calls_in : List Entry → ℕ
@@ -16,7 +16,7 @@ calls_in (a_note text ∷ es) = calls_in es
 
 -- the number of line feeds among bytes
 abbrev pub feeds : List ℕ → ℕ
-feeds bs = count_by (λ b. b == line_feed) bs
+feeds bs = count_by ends_line bs
 
 abbrev pub line_number_at : List ℕ → ℕ → ℕ
 line_number_at s place = 1 + feeds (take place s)

@@ -11,7 +11,7 @@ down_lane-requires g c = search (rules, ranges)
 
 pub returns-in-Some-clause-rule : goal.returns-in-Some-clause-rule
 returns-in-Some-clause-rule g c =
-    let sent : ℕ → Option Message = λ j. sent_by c.args.request.hub c.args.request.msg j c.args.request.kind in
+    let sent : ℕ → Option Message = λ j. sent_by c.args.request.hub.now c.args.request.msg j c.args.request.kind in
     let lanes = (g.F.Fabric.model c.args.fabric.now).lanes in
     let k = c.in-Some.shim in
     let first : (0 ≤ k) × (k < c.args.self.now.size.shims) × (blocked sent lanes k ≡ true) × ((j : ℕ) → 0 ≤ j → j < k → blocked sent lanes j ≡ false) =
@@ -20,7 +20,7 @@ returns-in-Some-clause-rule g c =
 
 pub returns-in-None : goal.returns-in-None
 returns-in-None g c =
-    let sent : ℕ → Option Message = λ j. sent_by c.args.request.hub c.args.request.msg j c.args.request.kind in
+    let sent : ℕ → Option Message = λ j. sent_by c.args.request.hub.now c.args.request.msg j c.args.request.kind in
     let lanes = (g.F.Fabric.model c.args.fabric.now).lanes in
     let none : (j : ℕ) → 0 ≤ j → j < c.args.self.now.size.shims → blocked sent lanes j ≡ false =
     first_from_Range _ _ _ None (λ j. blocked sent lanes j ≡ true) (λ j. blocked sent lanes j ≡ false) c.in-None.ensures.ran (λ x q k. search (rules, tests)) (λ x q k. search (rules, tests)) in

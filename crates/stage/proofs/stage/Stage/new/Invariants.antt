@@ -1,4 +1,4 @@
-use Rattle.std.proofs.Common.{◌≡◌, length, min}
+use Rattle.std.proofs.Common.{◌≡◌}
 use Rattle.stage.specs.Stage.{firsts_taken}
 use Rattle.stage.proofs.Filling.{Filled}
 use Rattle.stage.proofs.stage.Stage.new.Given as goal
@@ -9,5 +9,5 @@ invariant-loop-lane g l =
     let m = g.F.Fabric.model l.below in
     (g.F.Fabric.backing.bytes_of m.state ≡ g.F.Fabric.backing.bytes_of m₀.state)
     × Filled l.register-items m₀.lanes m.lanes l.lane
-    × (m ≡ firsts_taken g.F.Fabric.backing m₀ (min l.lane (length m₀.lanes)))
+    × (m ≡ firsts_taken g.F.Fabric.backing m₀ l.lane)
     × (g.F.Fabric.lender l.below ≡ g.F.Fabric.lender l.initial.below)
