@@ -1,0 +1,4 @@
+pub mod Examples
+pub mod Law
+pub mod Neighbours
+pub mod Sheets
