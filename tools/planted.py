@@ -71,8 +71,8 @@ class Copy:
             shutil.copy(ROOT / "crates" / file, self.top / "crates" / file)
         return done.stdout.decode(errors="replace") if done.returncode else None
 
-    def check(self, *bugs):
-        return self.complaint(bugs, "rt", "check", folder=f"crates/{bugs[0].crate}")
+    def check(self, crate, *bugs):
+        return self.complaint(bugs, "rt", "check", folder=f"crates/{crate}")
 
 
 def refusals(complaint):
@@ -81,25 +81,39 @@ def refusals(complaint):
 
 
 def try_together(copy, bugs):
-    goals = refusals(copy.check(*bugs))
+    goals = refusals(copy.check(bugs[0].crate, *bugs))
     for bug in bugs:
         own = [path for path in goals if path.split("::")[-1] == bug.function]
         if len(own) == 1:
             bug.found = f"proof: `{own[0]}` (`{goals[own[0]]}`)"
 
 
+def what_fails(complaint):
+    """What is not proved, from the output of a check; none where the check did not come so far."""
+    for path, goal in refusals(complaint).items():
+        return f"proof: `{path}` (`{goal}`)"
+    for place, goal in re.findall(r"^note: (src/\S+?):[\d:]+ .*\(`([^`]*)`\)", complaint, re.M):
+        return f"proof: `{place}` (`{goal}`)"
+    for path in re.findall(r"^fn (\S+): not proved(?!; it calls)", complaint, re.M):
+        return f"proof file: `{path}`"
+    if error := re.search(r"^\./(?:proofs|specs)/(\S+?): error", complaint, re.M):
+        return f"proof file: `{error[1]}`"
+    return None
+
+
 def try_alone(copy, bug):
-    if complaint := copy.check(bug):
-        for path, goal in refusals(complaint).items():
-            return f"proof: `{path}` (`{goal}`)"
-        for place, goal in re.findall(r"^note: (src/\S+?):[\d:]+ .*\(`([^`]*)`\)", complaint, re.M):
-            return f"proof: `{place}` (`{goal}`)"
-        for path in re.findall(r"^fn (\S+): not proved(?!; it calls)", complaint, re.M):
-            return f"proof file: `{path}`"
-        return "NOT A BUG: " + re.search(r"^error.*|\Z", complaint, re.M).group()
+    for crate in (bug.crate, *crates_above(bug.crate)):
+        if complaint := copy.check(crate, bug):
+            return what_fails(complaint) or "NOT A BUG: " + re.search(r"^error.*|\Z", complaint, re.M).group()
     if complaint := copy.complaint([bug], "bash", "-c", "rt ci && tools/full.sh"):
         return "test: " + re.search(r".*(?:not proved|FAILED|[1-9] failed|ends with [^1]).*|\Z", complaint).group()
     return "SURVIVED"
+
+
+def crates_above(crate):
+    """The crates that stand on this one, from the lines of crates.txt."""
+    lines = [line.split(":") for line in (ROOT / "crates.txt").read_text().splitlines() if ":" in line and not line.startswith("#")]
+    return [name.split()[0] for name, below in lines if crate in below.split()]
 
 
 def rounds(bugs):
