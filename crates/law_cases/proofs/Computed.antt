@@ -1,4 +1,4 @@
-use Rattle.std.proofs.Common.{◌≡◌, zero, suc, refl}
+use Rattle.std.proofs.Common.{◌≡◌, zero, suc, refl, arith}
 use Rattle.rules.specs.Strengths.{fitting}
 use Rattle.law_cases.specs.Sheets.{asked_of, told, plain, own, crossed, crossed_end}
 
@@ -26,3 +26,8 @@ crossed_quiet (suc (suc (suc (suc k)))) = refl
 pub crossed_word : crossed_end.HubWord 0 1
 unfolding fitting
 crossed_word = refl
+
+-- .. and shim 1 holds a copy of it
+pub crossed_copy : crossed_end.HeldCopy 1 0 1
+unfolding fitting
+crossed_copy = (omega arith, refl, refl)

@@ -3,11 +3,11 @@ use Rattle.std.proofs.Common.{◌≡◌, ℕ, ◌⊎◌, Bool, true, List, Ok, r
 use Rattle.std.specs.Prelude.{not, ◌==◌}
 use Rattle.std.proofs.lemmas.Bool.{false≢true}
 use Rattle.rules.specs.declared.kind.Kind.TheVariants.{Write, ReadRequest, Drop}
-use Rattle.order.specs.Common.{Trace, Call, Outcome, Load, Store, Evict, Down, Done, Waits, Value, Handled, Gave, at_once, later, a_store, a_load, a_fence, Before, Sees, LastWord, EveryStore}
+use Rattle.order.specs.Common.{Trace, Call, Outcome, Load, Store, Evict, Down, Done, Waits, Value, Handled, Performs, Gave, at_once, later, a_store, a_load, a_fence, Before, Sees, LastWord, EveryStore}
 use Rattle.order.proofs.Traces.{at_same}
 use Rattle.law_cases.specs.Examples.{own_order, crossed_order, Examples}
 use Rattle.law_cases.specs.Sheets.{own, crossed, both_sc, both_fenced}
-use Rattle.law_cases.proofs.Computed.{plain_told, own_told, crossed_told}
+use Rattle.law_cases.proofs.Computed.{plain_told, own_told, crossed_told, crossed_quiet, crossed_word, crossed_copy}
 use Rattle.law_cases.proofs.Decided.{decided, last_is, last_word, seen_by, sees_to, sees_from, performer}
 use Rattle.law_cases.proofs.None.{second_first}
 use Rattle.law_cases.proofs.Orders.{plain_ordered, own_ordered, crossed_ordered, stands_not}
@@ -35,6 +35,9 @@ last_not_the_other (inl (i, s, stored, counts, others)) =
     go e (inr b) = false≢true (decided crossed_order 0 1 (subst (λ (n : ℕ). Before crossed_order 0 n) e b))
 last_not_the_other (inr (unseen, e)) = omega arith
 
+store_one_performed : Performs crossed 3 1
+store_one_performed = record { shim = 1; answer = Handled Write; call = Store 1 0 0 2; outcome = Ok Done; up_at = refl; at = refl; is_sent = refl; own = refl; same_rank = refl }
+
 pub examples : Examples
 examples =
     record {
@@ -46,10 +49,14 @@ examples =
       answered_load_not_sent = refl;
       refused_not_sent = refl;
       eviction_sent = refl;
+      up_performs = refl;
+      refused_up_performs_not = refl;
+      of_shim = refl;
       three_sent = refl;
-      store_performed = record { shim = 1; answer = Handled Write; call = Store 1 0 0 2; outcome = Ok Done; up_at = refl; at = refl; is_sent = refl; own = refl; same_rank = refl };
+      store_performed = store_one_performed;
       load_performed = record { shim = 1; answer = Handled ReadRequest; call = Load 1 1 0; outcome = Ok Waits; up_at = refl; at = refl; is_sent = refl; own = refl; same_rank = refl };
       eviction_performed = record { shim = 1; answer = Handled Drop; call = Evict 1 1; outcome = Ok Done; up_at = refl; at = refl; is_sent = refl; own = refl; same_rank = refl };
+      performed = (3, store_one_performed);
       other_shim_not_performed = λ h. let e = performer crossed 0 4 refl 3 h in omega arith;
       later_not_performed = λ h. let e = performer crossed 9 10 refl 3 h in omega arith;
       hub_before = second_first;
@@ -68,6 +75,8 @@ examples =
       refused_stands_not = stands_not crossed 2 0 refl;
       before = (0, 1, refl, refl, omega arith);
       not_before = λ h. false≢true (decided crossed_order 0 1 h);
+      a_load = (1, 0, Ok (Value 0), refl);
+      weak_store = (0, 0, 1, Done, refl, λ e. omega arith);
       may_precede = ((1, 0, Ok (Value 0), refl), (0, 0, 1, Done, refl, λ e. omega arith));
       not_sc = must_follow both_sc 0 2 0 refl;
       not_a_load = must_follow own 8 9 0 refl;
@@ -79,6 +88,9 @@ examples =
       last_none = last_seen own own_order 9 0 1 0 refl;
       last_of_all = last_is crossed crossed_order (λ i s. true) 0 1 EveryStore (λ i s h. refl) (λ i s h. tt) refl;
       last_not_the_other = last_not_the_other;
+      quiet = crossed_quiet;
+      hub_word = crossed_word;
+      held_copy = crossed_copy;
       plain_ordered = plain_ordered;
       own_ordered = own_ordered;
       crossed_ordered = crossed_ordered;

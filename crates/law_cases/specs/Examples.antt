@@ -1,9 +1,10 @@
 -- Each word of the law on one of the runs, with what is not so where that tells more.
 use Rattle.std.specs.Prelude.{◌≡◌, ℕ, true, false, List, [], ◌∷◌, Ok, Err}
 use Rattle.rules.specs.declared.refusal.Refusal.TheVariants.{NoLine}
-use Rattle.order.specs.Common.{Load, Store, Evict, Done, Waits, Value, sends, count, At, Performs, HubBefore, Stored, Gave, Fenced, Stands, Before, MayPrecede, Sees, LastWord, EveryStore, CommonOrder}
+use Rattle.rules.specs.declared.kind.Kind.TheVariants.{Write}
+use Rattle.order.specs.Common.{Load, Store, Evict, Up, Done, Waits, Value, Handled, shim_of, sends, performs, count, At, Performs, Performed, HubBefore, Stored, Gave, Fenced, Stands, Before, IsLoad, IsWeakStore, MayPrecede, Sees, LastWord, EveryStore, CommonOrder}
 use Rattle.law_cases.specs.Law.{busy}
-use Rattle.law_cases.specs.Sheets.{asked_of, told, plain, own, crossed, both_sc, both_fenced}
+use Rattle.law_cases.specs.Sheets.{asked_of, told, plain, own, crossed, crossed_end, both_sc, both_fenced}
 
 abbrev pub plain_order : List ℕ
 plain_order = 0 ∷ 8 ∷ 3 ∷ 9 ∷ 6 ∷ 7 ∷ []
@@ -26,11 +27,16 @@ pub record Examples : Type 0 where
   pub answered_load_not_sent : sends (Load 1 0 0) (Ok (Value 1)) ≡ false
   pub refused_not_sent : sends (Store 0 7 0 3) (Err NoLine) ≡ false
   pub eviction_sent : sends (Evict 1 1) (Ok Done) ≡ true
+  -- an accepted up performs, a refused one does not; a call is of the shim that it is made at
+  pub up_performs : performs (Up 1) (Ok (Handled Write)) ≡ true
+  pub refused_up_performs_not : performs (Up 1) (Err NoLine) ≡ false
+  pub of_shim : shim_of (Evict 1 0) ≡ 1
   -- shim 1 sends up a store, a load and an eviction, and its ups perform them in this order; none performs a call of shim 0
   pub three_sent : count sends 1 crossed 18 ≡ 3
   pub store_performed : Performs crossed 3 1
   pub load_performed : Performs crossed 10 9
   pub eviction_performed : Performs crossed 13 12
+  pub performed : Performed crossed 1
   pub other_shim_not_performed : Performs crossed 3 0 → ⊥
   pub later_not_performed : Performs crossed 3 9 → ⊥
   -- the hub performs the store that was made second before the first
@@ -55,6 +61,8 @@ pub record Examples : Type 0 where
   pub before : Before crossed_order 1 0
   pub not_before : Before crossed_order 0 1 → ⊥
   -- a load may precede its chip's earlier store; not one that is SC, nor an earlier load, and a fence may not
+  pub a_load : IsLoad plain 8 0
+  pub weak_store : IsWeakStore plain 6 0
   pub may_precede : MayPrecede plain 0 8 6
   pub not_sc : MayPrecede both_sc 0 2 0 → ⊥
   pub not_a_load : MayPrecede own 0 9 8 → ⊥
@@ -68,6 +76,10 @@ pub record Examples : Type 0 where
   pub last_none : LastWord own own_order (Sees own_order 9 0) 1 0
   pub last_of_all : LastWord crossed crossed_order EveryStore 0 1
   pub last_not_the_other : LastWord crossed crossed_order EveryStore 0 2 → ⊥
+  -- at the end of a run: no message waits; the hub's word of line 0, and the copy of it that shim 1 holds
+  pub quiet : crossed_end.Quiet
+  pub hub_word : crossed_end.HubWord 0 1
+  pub held_copy : crossed_end.HeldCopy 1 0 1
   -- these are common orders of the three runs, as far as what chips saw
   pub plain_ordered : CommonOrder plain busy plain_order
   pub own_ordered : CommonOrder own busy own_order
