@@ -110,4 +110,5 @@ pub record EvictCases : Type 0 where
   pub busy : (evict (awaiting (Some wait.Fence) None) (filled (quiet 2) 0) 0 0).outcome ≡ Err ShimWaits
   pub not_held : (evict fresh_state (filled (quiet 2) 0) 0 0).outcome ≡ Err NotHeld
   pub unsettled : (evict (holding (unsettled_at 10 1)) (filled (quiet 2) 0) 0 0).outcome ≡ Err Unsettled
+  pub not_evicted : (evict (holding (unsettled_at 10 1)) (quiet 2) 0 0).outcome ≡ Err Unsettled
   pub full : (evict (holding (settled_at 42 5)) (filled (quiet 2) 0) 0 0).outcome ≡ Err (Fabric (Full 0))

@@ -35,7 +35,7 @@ module _ (bs : List ℕ) (n : ℕ) where
       let whole : len / (2 * frame_bytes * n) * (2 * frame_bytes * n) ≤ len = omega (arith, div-add-mod' len (2 * frame_bytes * n)) in
       record {
         lawful = new_lawful (2 * n) c (frames_room bs) (record { lane_bound = omega arith; capacity_least = λ _. one; capacity_most = most; all_in = omega (arith, part, whole) });
-        lanes = rw t (new_lanes (2 * n) c (message_in bs) (omega arith));
+        lanes = rw t (new_lanes (2 * n) c (message_in bs));
         begin = refl;
       }
 

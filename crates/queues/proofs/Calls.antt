@@ -44,11 +44,11 @@ new_lawful n c room fit =
     }
 
 -- lanes just made: nothing waits
-pub new_lanes : (n c : ℕ) (held : ℕ → Message) → n ≤ lane_limit → row_lanes (new_rows n c) held ≡ empty_lanes n c
-new_lanes n c held few =
+pub new_lanes : (n c : ℕ) (held : ℕ → Message) → row_lanes (new_rows n c) held ≡ empty_lanes n c
+new_lanes n c held =
     lanes_empty n c (row_lane (new_rows n c) held)
-    (λ k h. ap (λ l. record { capacity = c; messages = l })
-    (ap (λ (s : Span). queue (λ j. held (c * k + j)) c s.first s.waiting) (get_or-replicate lane_limit k no_span no_span (omega arith)) ∙ queue_none (λ j. held (c * k + j)) c 0))
+    (λ k _. ap (λ l. record { capacity = c; messages = l })
+    (ap (λ (s : Span). queue (λ j. held (c * k + j)) c s.first s.waiting) (same_all lane_limit k no_span) ∙ queue_none (λ j. held (c * k + j)) c 0))
 
 -- a lane that does not exist
 module _ (r : Rows) (held : ℕ → Message) (k : ℕ) (out : r.lanes ≤ k) where

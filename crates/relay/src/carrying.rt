@@ -1,4 +1,4 @@
-ghost use Rattle.std.specs.Prelude.{◌≡◌, false, length, is_ok};
+ghost use Rattle.std.specs.Prelude.{◌≡◌, false, length, is_ok, Ok};
 ghost use Rattle.fabric.specs.Lanes.{put_answer};
 ghost use Rattle.frames.specs.Frames.{lanes_over};
 ghost use Rattle.relay.specs.Carrying.{carry_answer, move_in_answer, move_in_bytes};
@@ -41,4 +41,11 @@ pub fn move_in_bytes(
     let mut frames = Frames::new(bytes, shims);
     frames.put(from, msg)?;
     move_first(&mut frames, from, to)
+}
+
+// Carries a message from shim 0 to shim 1, over 4,096 bytes: it comes out as it went in.
+pub fn carry_across(bytes: &mut [u8; 4096], msg: Message) -> Result<Message, FabricFault>
+    ensures answer { result ≡ Ok msg }
+{
+    carry(bytes, 2, 0, 3, msg)
 }

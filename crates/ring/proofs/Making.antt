@@ -1,15 +1,11 @@
 -- A ring just made.
-use Rattle.std.proofs.Common.{◌≡◌, ℕ, ◌≤◌, ap, ◌∙◌, arith}
+use Rattle.std.proofs.Common.{◌≡◌, ℕ, ap, ◌∙◌}
 use Rattle.fabric.specs.declared.message.Message.{Message}
-use Rattle.fabric.specs.Lanes.{lane_limit}
 use Rattle.queues.specs.declared.rows.Rows.{Rows}
 use Rattle.queues.specs.Rows.{new_rows, row_lanes, rows_model}
 use Rattle.queues.proofs.Calls.{new_lanes}
 use Rattle.ring.specs.Ring.{no_backing, ring_capacity, lanes_for, made_ring}
 
-few : (shims : ℕ) → lanes_for shims ≤ lane_limit
-few shims = grind arith
-
 pub made : (shims n : ℕ) (r : Rows) (held : ℕ → Message) → n ≡ lanes_for shims → r ≡ new_rows n ring_capacity → rows_model no_backing r held (λ _. tt) ≡ made_ring shims
 made shims n r held lanes new =
-    ap (λ l. record { lanes = l; state = tt }) (ap (λ q. row_lanes q held) (new ∙ ap (λ m. new_rows m ring_capacity) lanes) ∙ new_lanes (lanes_for shims) ring_capacity held (few shims))
+    ap (λ l. record { lanes = l; state = tt }) (ap (λ q. row_lanes q held) (new ∙ ap (λ m. new_rows m ring_capacity) lanes) ∙ new_lanes (lanes_for shims) ring_capacity held)

@@ -9,6 +9,14 @@ use sheet::Line;
 use verdict::Flaw;
 
 impl<'a> Session<'a> {
+    // Nothing is told any more. It stands apart from `next`, since a function clears the room of all its values when it is entered, and a phase has the room of a board.
+    fn stop(&mut self)
+        ensures left { self.new.phase ≡ Phase.Over }
+        ensures reader { self.new.reader ≡ self.old.reader }
+    {
+        self.phase = Phase::Over;
+    }
+
     // The next thing that the sheet prints; nothing when all is printed. It is no `Iterator`, which has one relation in the place of these four clauses.
     pub fn next(&mut self) -> Option<Printed<'a>>
         ensures item { option_map item_of result ≡ (next_item self.old.reader.sheet.now (play_of self.old)).0 }
@@ -27,17 +35,17 @@ impl<'a> Session<'a> {
                 }
                 Ok(Some(Line::Note(text))) => Some(Printed::Note(text)),
                 Ok(None) => {
-                    self.phase = Phase::Over;
+                    self.stop();
                     None
                 }
                 Err(fault) => {
-                    self.phase = Phase::Over;
+                    self.stop();
                     Some(Printed::Flawed(Flaw::of(self.sheet, fault)))
                 }
             },
             Phase::Flawed(flaw) => {
                 let flaw = *flaw;
-                self.phase = Phase::Over;
+                self.stop();
                 Some(Printed::Flawed(flaw))
             }
             Phase::Over => None,

@@ -1,4 +1,5 @@
-ghost use Rattle.std.specs.Prelude.{◌≡◌, ◌+◌, ◌≤◌, ◌++◌, if◌then◌else◌, length, is_ok, IfOk, IsOk, vec_len, vec_capacity, Ok, Err};
+ghost use Rattle.std.specs.Prelude.{◌≡◌, ◌+◌, ◌≤◌, ◌++◌, if◌then◌else◌, length, is_ok, IfOk, OnOk, IsOk, vec_len, vec_capacity, Ok, Err};
+ghost use Rattle.session.specs.Agreement.{Agrees};
 ghost use Rattle.session.specs.Items.{an_answer, item_bytes};
 ghost use Rattle.session.specs.Meaning.{item_of};
 ghost use Rattle.session.specs.Playing.{printed_by};
@@ -81,7 +82,8 @@ pub fn report<'a>(
     sheet: &'a [u8],
     buffer: &'a mut [u8; BUFFER_LEN],
 ) -> Result<Vec<u8>, AllocError>
-    ensures { IfOk result (λ v. v.items ≡ printed_by sheet.now) }
+    ensures printed { IfOk result (λ v. v.items ≡ printed_by sheet.now) }
+    ensures agrees { OnOk result (Agrees sheet.now) }
 {
     let mut out = Vec::new(heap);
     let mut session = Session::new(sheet, buffer);

@@ -17,7 +17,7 @@ fn feeds_before(sheet: &[u8], place: usize) -> usize
 }
 
 // The line that a place is on: 1 plus the line feeds before it.
-fn line_number(sheet: &[u8], place: usize) -> usize
+pub fn line_number(sheet: &[u8], place: usize) -> usize
     ensures { result ≡ line_number_at sheet.now place }
 {
     1 + feeds_before(sheet, place)

@@ -5,6 +5,6 @@ mod checker;
 mod printer;
 mod verdict;
 
-pub use checker::check;
+pub use checker::{check, line_number};
 pub use printer::{put_verdict, report};
 pub use verdict::{Flaw, Verdict};

@@ -1,10 +1,6 @@
 ghost use Rattle.std.specs.Prelude.{◌≡◌, ◌≤◌, length};
-ghost use Rattle.std.specs.Char.{is_ascii_digit};
-ghost use Rattle.std.specs.List.{list_all};
 ghost use Rattle.words.specs.Lengths.{ends_line, ends_word, line_length, word_length};
-ghost use Rattle.words.specs.Numbers.{number_of, plain};
-
-use std::str;
+ghost use Rattle.words.specs.Numbers.{has_plain_front, number_of, with_digit};
 
 // Whether a word ends before this byte.
 fn ends_word(b: u8) -> bool
@@ -36,29 +32,27 @@ pub fn line_length(text: &[u8]) -> usize
     text.iter().take_while(|b| !ends_line(**b)).count()
 }
 
-// Whether all bytes are decimal digits.
-fn all_digits(word: &[u8]) -> bool
-    ensures { result ≡ list_all is_ascii_digit word.now }
+// Whether a word may be a number by its front: it has a byte, and no zero that others follow.
+fn has_plain_front(word: &[u8]) -> bool
+    ensures { result ≡ has_plain_front word.now }
 {
-    word.iter().all(|b| b.is_ascii_digit())
+    !matches!(word, [] | [b'0', _, ..])
 }
 
-// Whether a word is one digit, or several with no zero in front.
-fn is_plain(word: &[u8]) -> bool
-    ensures { result ≡ plain word.now }
+// The number that has one digit more, where that is one from 0 to 4294967295.
+fn with_digit(value: u32, digit: u8) -> Option<u32>
+    ensures { result ≡ with_digit value digit }
 {
-    match word {
-        [] | [b'0', _, ..] => false,
-        _ => all_digits(word),
-    }
+    let digit = char::from(digit).to_digit(10)?;
+    value.checked_mul(10)?.checked_add(digit)
 }
 
 // The number that a word writes in decimal, with no zero in front, where it is one from 0 to 4294967295.
 pub fn number(word: &[u8]) -> Option<u32>
     ensures { result ≡ number_of word.now }
 {
-    if !is_plain(word) {
+    if !has_plain_front(word) {
         return None;
     }
-    str::from_utf8(word).ok()?.parse().ok()
+    word.iter().try_fold(0, |value, b| with_digit(value, *b))
 }

@@ -5,7 +5,6 @@ ghost use Rattle.sheet.specs.Lines.{LineAt, NextLine};
 use crate::line::Line;
 use crate::op::Op;
 use crate::reader::Reader;
-use crate::token::TokenKind;
 use words::{Fault, FaultKind};
 
 impl<'a> Reader<'a> {
@@ -15,13 +14,9 @@ impl<'a> Reader<'a> {
         ensures line { LineAt self.old.sheet self.old.at result self.new.at }
         ensures sheet { OnOk result (self.new.sheet ≡ self.old.sheet) }
     {
-        match self.token()?.kind {
-            TokenKind::Note(text) => {
-                self.end_line()?;
-                Ok(Line::Note(text))
-            }
-            TokenKind::Keyword(_) | TokenKind::Number(_) => unreachable(),
-        }
+        let text = self.rest_of_line();
+        self.end_line()?;
+        Ok(Line::Note(text))
     }
 
     // The line that begins here. Its first byte, as a char, decides what it can be; the bytes then confirm it.

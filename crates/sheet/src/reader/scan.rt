@@ -71,7 +71,7 @@ impl<'a> Reader<'a> {
     }
 
     // The rest of the line.
-    fn rest_of_line(&mut self) -> &'a [u8]
+    pub(super) fn rest_of_line(&mut self) -> &'a [u8]
         ensures part { Part self.old.sheet result self.old.at (line_length (drop self.old.at self.old.sheet.now)) }
         ensures after { MovedTo self.old self.new (line_end self.old.sheet.now self.old.at) }
     {

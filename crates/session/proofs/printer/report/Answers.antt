@@ -40,8 +40,8 @@ loop-printed-preserved c =
           (one_printed h.0 s p _ _ _ _ (of_same s _ p _ same c.in-Some.ensures.item) h.1 c.in_ok-write.ensures.bytes),
     )
 
-pub returns : goal.returns
-returns c =
+pub returns-clause-printed : goal.returns-clause-printed
+returns-clause-printed c =
     let s = c.args.sheet.now in
     let h = c.loop-printed.invariant.1 in
     all_printed h.0 s (play_of c.loop-printed.session) _ _ (of_same s _ _ _ c.loop-printed.invariant.0 (ap (option_map item_of) (sym c.in_default.is) ∙ c.next.ensures.item)) h.1
