@@ -1,7 +1,7 @@
 ghost use Rattle.std.specs.Prelude.{◌≡◌, [], ◌∷◌};
 
 use fabric::{FRAME_LEN, encode};
-use relay::carry;
+use relay::carry_across;
 use rules::{Strength, store_request};
 
 // The frame of an SC store of 0x01020304 to a held line, carried from shim 0 to shim 1: it is never refused.
@@ -10,5 +10,5 @@ pub(crate) fn carried_frame() -> [u8; FRAME_LEN]
 {
     let mut bytes = [0u8; 4096];
     let msg = store_request(0, 0, Strength::SeqCst, true, 0x01020304);
-    encode(carry(&mut bytes, 2, 0, 3, msg).unwrap())
+    encode(carry_across(&mut bytes, msg).unwrap())
 }

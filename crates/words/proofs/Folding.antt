@@ -44,7 +44,7 @@ value_ge : (n : ℕ) (ds : List ℕ) → n ≤ value_after n ds
 value_ge n [] = omega arith
 value_ge n (d ∷ ds) = let h = value_ge (n * 10 + (d - 48)) ds in omega arith
 
--- it is the value of all digits, where all are digits and the value is none too large
+-- it is the value of all digits, where all are digits and the value is not too large
 reads-value : (n : ℕ) (w : List ℕ) → n ≤ largest → reads n w ≡ cond (all_ascii_digits w && nat_le (value_after n w) largest) (Some (value_after n w)) None
 reads-value n [] small = search rules
 reads-value n (c ∷ cs) small =
