@@ -9,7 +9,8 @@ use sheet::Line;
 use verdict::Flaw;
 
 impl<'a> Session<'a> {
-    // Nothing is told any more. It stands apart from `next`, since a function clears the room of all its values when it is entered, and a phase has the room of a board.
+    // Nothing is told any more. It stands apart from `next`: a function clears the room of all its
+    // values when it is entered, and a phase has the room of a board.
     fn stop(&mut self)
         ensures left { self.new.phase ≡ Phase.Over }
         ensures reader { self.new.reader ≡ self.old.reader }
