@@ -92,7 +92,9 @@ pub record UpRefusedCases : Type 0 where
   pub full : (up (at_hub shared) (waiting (filled (quiet 3) 3) 0 (message 1 0 18 0 7 0 ∷ [])) 0).outcome ≡ Err (Fabric (Full 3))
   pub full_lowest : (up (at_hub shared) (waiting (filled (filled (quiet 3) 5) 3) 0 (message 4 0 3 0 0 0 ∷ [])) 0).outcome ≡ Err (Fabric (Full 3))
   -- .. of two sharers that the store is to be sent to, the second alone has a full lane
-  pub one_full : (up (at_hub (hub_line 5 3 false true true)) (waiting (filled (quiet 3) 5) 0 (message 1 0 16 0 7 0 ∷ [])) 0).outcome ≡ Err (Fabric (Full 5))
+  pub one_full :
+      (up (at_hub (hub_line 5 3 false true true)) (waiting (filled (quiet 3) 5) 0 (message 1 0 16 0 7 0 ∷ [])) 0).outcome
+      ≡ Err (Fabric (Full 5))
   pub full_own : (up (at_hub shared) (waiting (filled (filled (quiet 3) 1) 3) 0 (message 1 0 18 0 7 0 ∷ [])) 0).outcome ≡ Err (Fabric (Full 1))
   pub full_changes_nothing :
       up (at_hub shared) (waiting (filled (quiet 3) 3) 0 (message 1 0 18 0 7 0 ∷ [])) 0

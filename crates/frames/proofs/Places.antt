@@ -23,15 +23,17 @@ module _ (bs : List ℕ) (p : ℕ) (f : List ℕ) (in_range : p + frame_bytes �
   read_above q h = ap (λ l. frame_at l q) as_mid ∙ ap (take frame_bytes) (drop-put_mid p frame_bytes bs f q h (omega arith) size)
 
 -- the bytes of a slot after another is written
-pub read_other : (bs f : List ℕ) (n i : ℕ) → frame_bytes * n + frame_bytes ≤ length bs → length f ≡ frame_bytes → i ≢ n
-    → frame_at (overwritten bs (frame_bytes * n) f) (frame_bytes * i) ≡ frame_at bs (frame_bytes * i)
+pub read_other : (bs f : List ℕ) (n i : ℕ) → frame_bytes * n + frame_bytes ≤ length bs → length f ≡ frame_bytes
+    → i ≢ n → frame_at (overwritten bs (frame_bytes * n) f) (frame_bytes * i) ≡ frame_at bs (frame_bytes * i)
 read_other bs f n i h s differ =
     ⊎_elim (λ same. absurd (differ same))
-    (⊎_elim (λ b. read_below bs (frame_bytes * n) f h s (frame_bytes * i) (omega arith)) (λ a. read_above bs (frame_bytes * n) f h s (frame_bytes * i) (omega arith)))
+    (⊎_elim (λ b. read_below bs (frame_bytes * n) f h s (frame_bytes * i) (omega arith))
+    (λ a. read_above bs (frame_bytes * n) f h s (frame_bytes * i) (omega arith)))
     (cases_order i n)
 
 -- and so its message
-pub message_other : (bs bs' : List ℕ) (x : Message) (n i : ℕ) → n < length bs / frame_bytes → bs' ≡ overwritten bs (frame_bytes * n) (frame_of x) → i ≢ n → message_in bs' i ≡ message_in bs i
+pub message_other : (bs bs' : List ℕ) (x : Message) (n i : ℕ) → n < length bs / frame_bytes
+    → bs' ≡ overwritten bs (frame_bytes * n) (frame_of x) → i ≢ n → message_in bs' i ≡ message_in bs i
 message_other bs bs' x n i h e differ =
     let fits : frame_bytes * n + frame_bytes ≤ length bs = omega (arith, div-add-mod' (length bs) frame_bytes) in
     ap (λ l. message_in l i) e ∙ ap message_of (read_other bs (frame_of x) n i fits refl differ)

@@ -48,7 +48,8 @@ pub new_lanes : (n c : ℕ) (held : ℕ → Message) → row_lanes (new_rows n c
 new_lanes n c held =
     lanes_empty n c (row_lane (new_rows n c) held)
     (λ k _. ap (λ l. record { capacity = c; messages = l })
-    (ap (λ (s : Span). queue (λ j. held (c * k + j)) c s.first s.waiting) (same_all lane_limit k no_span) ∙ queue_none (λ j. held (c * k + j)) c 0))
+    (ap (λ (s : Span). queue (λ j. held (c * k + j)) c s.first s.waiting) (same_all lane_limit k no_span)
+    ∙ queue_none (λ j. held (c * k + j)) c 0))
 
 -- a lane that does not exist
 module _ (r : Rows) (held : ℕ → Message) (k : ℕ) (out : r.lanes ≤ k) where

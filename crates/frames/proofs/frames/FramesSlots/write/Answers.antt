@@ -5,7 +5,8 @@ use Rattle.frames.proofs.Places.{message_other}
 use Rattle.frames.proofs.frames.FramesSlots.write.Goals as goal
 
 pub returns-clause-there : goal.returns-clause-there
-returns-clause-there c i _ differ = message_other c.args.self.now.bytes.now _ c.args.msg c.args.slot i c.requires c.write_frame.ensures.wrote differ
+returns-clause-there c i _ differ =
+    message_other c.args.self.now.bytes.now _ c.args.msg c.args.slot i c.requires c.write_frame.ensures.wrote differ
 
 pub returns-clause-state : goal.returns-clause-state
 returns-clause-state c first lanes k e =
